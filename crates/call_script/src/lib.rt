@@ -1,0 +1,12 @@
+//! The text of a script, read once, line by line, into typed lines; and what a replay tells, as text.
+#![tactic(auto)]
+
+mod fault;
+mod reader;
+mod reading;
+mod words;
+mod writing;
+
+pub use fault::ScriptFault;
+pub use reading::{SCRIPT_LIMIT, read_script};
+pub use writing::{write_refusal, write_told};

@@ -1,0 +1,47 @@
+ghost use Rattle.std.specs.Prelude.{◌≡◌, ◌+◌, ◌^◌, ◌<◌, ◌≤◌, length, map, Ok, Err, MatchResult, IfOk};
+ghost use Rattle.rpc_model.specs.Script.{script, lines_say};
+ghost use Rattle.rpc_model.specs.Lines.{nothing};
+ghost use Rattle.rpc_model.specs.Fits.{Fits};
+ghost use Rattle.call_script.specs.Judged.{Reads, SaysLines};
+
+use crate::fault::{LineFault, ScriptFault};
+use crate::reader::{Reader, cut};
+use rpc_model::{Cause, Mode, Script};
+use std::alloc::Global;
+
+/// The greatest length of a script, in bytes.
+pub const SCRIPT_LIMIT: usize = 16_777_216;
+
+/// The typed lines of a script, or its first bad line and the cause.
+///
+/// `Bad` comes exactly where the script grammar names a bad line: line 0 for a script of more than `SCRIPT_LIMIT`
+/// bytes, else the first line, counted from 1, that isn't accepted.
+#[tactic(auto, unfolding(rpc_model::specs::Script::script))]
+pub fn read_script(alloc: Global, mode: Mode, bytes: &[u8]) -> Result<Script, ScriptFault>
+    ensures script { Reads result (script mode bytes.now) }
+    ensures fits { IfOk result Fits }
+{
+    if bytes.len() > SCRIPT_LIMIT {
+        return Err(ScriptFault::Bad(0, Cause::TooLong));
+    }
+    let lines = cut(alloc, bytes, b'\n')?;
+    let reader = read_lines(alloc, mode, &lines)?;
+    Ok(reader.into_script())
+}
+
+/// What all the lines say.
+fn read_lines(alloc: Global, mode: Mode, lines: &[&[u8]]) -> Result<Reader, ScriptFault>
+    requires { length lines.now ≤ 2 ^ 31 }
+    ensures { SaysLines result (lines_say 1 (nothing mode) (map (λ l. l.now) lines.now)) }
+{
+    let mut reader = Reader::new(alloc, mode);
+    let mut number = 1u32;
+    for line in lines {
+        match reader.line_says(line) {
+            Ok(()) => number += 1,
+            Err(LineFault::Refused) => return Err(ScriptFault::Bad(number, Cause::NotBuilt)),
+            Err(LineFault::Memory) => return Err(ScriptFault::Memory),
+        }
+    }
+    Ok(reader)
+}

@@ -1,0 +1,143 @@
+//! The words of a line: numbers, names, texts and options.
+
+ghost use Rattle.std.specs.Prelude.{◌≡◌, ℕ, ◌+◌, ◌^◌, ◌<◌, ◌≤◌, Option, None, Some, MatchOption, IfSome, length, position, ◌==◌};
+ghost use Rattle.std.specs.List.{list_all};
+ghost use Rattle.std.specs.Option.{option_map};
+ghost use Rattle.rpc_model.specs.Words as spec;
+ghost use Rattle.rpc_model.specs.Fits.{IsWait};
+
+/// Whether each byte is one of `low` to `high`.
+pub(crate) fn all_within(bytes: &[u8], low: u8, high: u8) -> bool
+    ensures { result ≡ spec.all_within low high bytes.now }
+{
+    bytes.iter().all(|b| low <= *b && *b <= high)
+}
+
+/// The number that the digits spell, where it is at most `high`.
+fn digits(word: &[u8], high: u64) -> Option<u64>
+    requires { high < 2 ^ 60 }
+    ensures { MatchOption result (high < spec.digits_after 0 word.now) (λ n. (n ≡ spec.digits_after 0 word.now) × (n ≤ high)) }
+{
+    let mut number = 0u64;
+    for digit in word {
+        number = 10 * number + u64::from(digit.saturating_sub(b'0'));
+        if number > high {
+            return None;
+        }
+    }
+    Some(number)
+}
+
+/// Whether the word is decimal digits without a needless leading zero.
+fn is_numeral(word: &[u8]) -> bool
+    ensures { result ≡ spec.is_numeral word.now }
+{
+    match word {
+        [] => false,
+        [first, rest @ ..] => all_within(word, b'0', b'9') && (rest.is_empty() || *first != b'0'),
+    }
+}
+
+/// A number of `low` to `high`.
+#[tactic(auto, unfolding(rpc_model::specs::Words::number))]
+pub(crate) fn number(word: &[u8], low: u64, high: u64) -> Option<u64>
+    requires { high < 2 ^ 60 }
+    ensures value { result ≡ spec.number low high word.now }
+    ensures bound { IfSome result (λ n. n ≤ high) }
+    ensures floor { IfSome result (λ n. low ≤ n) }
+{
+    if !is_numeral(word) {
+        return None;
+    }
+    let number = digits(word, high)?;
+    if low <= number { Some(number) } else { None }
+}
+
+fn is_name_byte(byte: u8) -> bool
+    ensures { result ≡ spec.is_name_byte byte }
+{
+    byte.is_ascii_lowercase() || byte.is_ascii_digit() || byte == b'_'
+}
+
+fn all_name_bytes(word: &[u8]) -> bool
+    ensures { result ≡ list_all spec.is_name_byte word.now }
+{
+    word.iter().all(|b| is_name_byte(*b))
+}
+
+/// Whether the word is a name: 1 to 32 of `a` to `z`, `0` to `9` and `_`.
+#[tactic(auto, unfolding(rpc_model::specs::Words::is_name))]
+pub(crate) fn is_name(word: &[u8]) -> bool
+    ensures { result ≡ spec.is_name word.now }
+{
+    1 <= word.len() && word.len() <= 32 && all_name_bytes(word)
+}
+
+/// The text that the word stands for: a dash alone is the empty text.
+#[tactic(auto, unfolding(rpc_model::specs::Words::text))]
+pub(crate) fn text(word: &[u8]) -> Option<&[u8]>
+    ensures value { option_map (λ t. t.now) result ≡ spec.text word.now }
+    ensures bound { IfSome result (λ t. length t.now ≤ 60000) }
+{
+    if word.is_empty() || word.len() > 60_000 {
+        return None;
+    }
+    Some(if *word == *b"-".as_slice() { &[] } else { word })
+}
+
+/// What stands behind the key of a word `key=value`; the key is given with its `=`.
+fn value_of<'a>(word: &'a [u8], key: &[u8]) -> Option<&'a [u8]>
+    ensures { option_map (λ t. t.now) result ≡ spec.value_of key.now word.now }
+{
+    word.strip_prefix(key)
+}
+
+/// Milliseconds, or none where the word is `-1`.
+#[tactic(auto, unfolding(rpc_model::specs::Words::wait))]
+fn wait(word: &[u8]) -> Option<Option<u32>>
+    ensures value { result ≡ spec.wait word.now }
+    ensures bound { IfSome result IsWait }
+{
+    if *word == *b"-1".as_slice() {
+        return Some(None);
+    }
+    let millis = number(word, 1, 2_147_483_647)?;
+    Some(Some(millis as u32))
+}
+
+/// The number of a word `key=number`; the key is given with its `=`.
+pub(crate) fn number_option(word: &[u8], key: &[u8], low: u64, high: u64) -> Option<u64>
+    requires { high < 2 ^ 60 }
+    ensures value { result ≡ spec.number_option key.now low high word.now }
+    ensures bound { IfSome result (λ n. n ≤ high) }
+{
+    number(value_of(word, key)?, low, high)
+}
+
+/// The milliseconds, or none, of a word `key=wait`; the key is given with its `=`.
+pub(crate) fn wait_option(word: &[u8], key: &[u8]) -> Option<Option<u32>>
+    ensures value { result ≡ spec.wait_option key.now word.now }
+    ensures bound { IfSome result IsWait }
+{
+    wait(value_of(word, key)?)
+}
+
+/// Where the byte stands first.
+fn position_of(word: &[u8], byte: u8) -> Option<usize>
+    ensures value { result ≡ position (λ b. b == byte) word.now }
+    ensures bound { IfSome result (λ at. at < length word.now) }
+{
+    word.iter().position(|b| *b == byte)
+}
+
+/// The node and the attempt of a word `NODE#ATTEMPT`.
+#[tactic(auto, unfolding(rpc_model::specs::Words::attempt_word))]
+pub(crate) fn attempt_word(word: &[u8]) -> Option<(u32, u32)>
+    ensures { result ≡ spec.attempt_word word.now }
+{
+    let at = position_of(word, b'#')?;
+    let (front, rest) = word.split_at(at);
+    let node = number(front, 0, 4_294_967_295)?;
+    let attempt = number(&rest[1..], 0, 4_294_967_295)?;
+    Some((node as u32, attempt as u32))
+}

@@ -1,0 +1,11 @@
+pub mod Codes
+pub mod Leaf
+pub mod Plan
+pub mod Machine
+pub mod Marks
+pub mod Told
+pub mod Text
+pub mod Words
+pub mod Lines
+pub mod Script
+pub mod Fits

@@ -1,0 +1,22 @@
+//! The plain machine: what a script says, what a call is, and what the joins of a script tell, by definitions that
+//! compute on lists and numbers and know nothing of slots, versions, locks, frames or timers.
+//!
+//! The definitions stand in `specs/`; the types that they speak of stand here. Every contract of the crates above cites
+//! them.
+#![tactic(auto)]
+
+mod chan;
+mod codes;
+mod event;
+mod script;
+mod told;
+
+pub use chan::{Chan, LeafChan};
+pub use codes::{
+    EBACKUPREQUEST, ECANCELED, ECONNREFUSED, ECONNRESET, EFAILEDSOCKET, EHOSTDOWN, EINTERNAL,
+    ELIMIT, ELOGOFF, ENOMETHOD, ENOSERVICE, EPCHANFINISH, EPIPE, EREQUEST, ERESPONSE, ERPCTIMEDOUT,
+    ETOOMANYFAILS, retriable,
+};
+pub use event::{End, Event};
+pub use script::{Act, Cause, Mode, Script};
+pub use told::Told;
