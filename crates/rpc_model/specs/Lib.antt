@@ -9,3 +9,4 @@ pub mod Words
 pub mod Lines
 pub mod Script
 pub mod Fits
+pub mod Moments

@@ -99,10 +99,13 @@ join_tells reached (Some (full call)) = Gone call ∷ []
 join_tells reached (Some (told_of call)) = Gone call ∷ []
 
 -- A call without a slot is told so at once.
+abbrev pub new_tells : Bool → ℕ → List Told
+new_tells true call = Full call ∷ []
+new_tells false call = []
+
 abbrev pub call_tells : Bool → ℕ → Option Plan → List Told
 call_tells is_full call None = []
-call_tells true call (Some plan) = Full call ∷ []
-call_tells false call (Some plan) = []
+call_tells is_full call (Some plan) = new_tells is_full call
 
 -- the replay after a line
 unfoldable pub after : Script → Replay → Act → Replay
