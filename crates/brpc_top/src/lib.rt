@@ -1,6 +1,12 @@
 //! The top call: the words of the command line, a source and a sink go in, and a status comes out.
 #![tactic(auto)]
 
+mod input;
 mod open_call;
+mod output;
 mod replay;
 mod standing;
+mod status;
+mod top;
+
+pub use top::{run, run_sim};

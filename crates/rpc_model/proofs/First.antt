@@ -16,16 +16,16 @@ pub change_first-none : {X : Type 0} (t : X → Bool) (f : X → X) (xs : List X
 change_first-none t f [] h = refl
 change_first-none t f (x ∷ xs) h =
     elim (t x) as (λ b. t x ≡ b → cond b (f x ∷ xs) (x ∷ change_first t f xs) ≡ x ∷ xs) [
-      true ↦ λ e. absurd (omega (arith, ap (λ b. cond (not b) (1 + prefix_len (λ y. not (t y)) xs) 0) e))
-    | false ↦ λ e. ap (λ ys. x ∷ ys) (change_first-none t f xs (omega (arith, ap (λ b. cond (not b) (1 + prefix_len (λ y. not (t y)) xs) 0) e)))
+      | true ↦ λ e. absurd (omega (arith, ap (λ b. cond (not b) (1 + prefix_len (λ y. not (t y)) xs) 0) e))
+      | false ↦ λ e. ap (λ ys. x ∷ ys) (change_first-none t f xs (omega (arith, ap (λ b. cond (not b) (1 + prefix_len (λ y. not (t y)) xs) 0) e)))
     ] refl
 
 pub find-none : {X : Type 0} (t : X → Bool) (xs : List X) → length xs ≤ position_or_len t xs → find t xs ≡ None
 find-none t [] h = refl
 find-none t (x ∷ xs) h =
     elim (t x) as (λ b. t x ≡ b → cond b (Some x) (find t xs) ≡ None) [
-      true ↦ λ e. absurd (omega (arith, ap (λ b. cond (not b) (1 + prefix_len (λ y. not (t y)) xs) 0) e))
-    | false ↦ λ e. find-none t xs (omega (arith, ap (λ b. cond (not b) (1 + prefix_len (λ y. not (t y)) xs) 0) e))
+      | true ↦ λ e. absurd (omega (arith, ap (λ b. cond (not b) (1 + prefix_len (λ y. not (t y)) xs) 0) e))
+      | false ↦ λ e. find-none t xs (omega (arith, ap (λ b. cond (not b) (1 + prefix_len (λ y. not (t y)) xs) 0) e))
     ] refl
 
 pub change_first-at : {X : Type 0} (t : X → Bool) (f : X → X) (xs : List X) (i : ℕ) (d : X) → i < length xs → ((k : ℕ) → k < i → t (get_or xs k d) ≡ false) → t (get_or xs i d) ≡ true

@@ -79,8 +79,8 @@ unfolding FinishedBy
 finish_at_most-by b zero reached c hr h = (hr, h)
 finish_at_most-by b (suc count) reached c hr h =
     elim (is_some (end_of c.state)) as (λ v. FinishedBy b (cond v (reached, c) (finish_least (finish_at_most count) reached c (least_mark c.waiting)))) [
-      true ↦ (hr, h)
-    | false ↦ finish_least-by b (finish_at_most count) reached c (least_mark c.waiting) (λ r d. finish_at_most-by b count r d) hr h (least-by b c.waiting h)
+      | true ↦ (hr, h)
+      | false ↦ finish_least-by b (finish_at_most count) reached c (least_mark c.waiting) (λ r d. finish_at_most-by b count r d) hr h (least-by b c.waiting h)
     ]
 
 event_after-by : (b : ℕ) (e : Event) (moment : ℕ) (s : Standing) → StandsBy b s → StandsBy b (event_after e moment s)
@@ -102,8 +102,8 @@ change_first-by : {X : Type 0} (P : X → Type 0) (t : X → Bool) (f : X → X)
 change_first-by {X} P t f keeps [] h = h
 change_first-by {X} P t f keeps (x ∷ xs) h =
     elim (t x) as (λ v. All P (cond v (f x ∷ xs) (x ∷ change_first t f xs))) [
-      true ↦ All-cons P (f x) xs (keeps x (All-head P x xs h)) (All-tail P x xs h)
-    | false ↦ All-cons P x (change_first t f xs) (All-head P x xs h) (change_first-by P t f keeps xs (All-tail P x xs h))
+      | true ↦ All-cons P (f x) xs (keeps x (All-head P x xs h)) (All-tail P x xs h)
+      | false ↦ All-cons P x (change_first t f xs) (All-head P x xs h) (change_first-by P t f keeps xs (All-tail P x xs h))
     ]
 
 FoundBy : ℕ → Option Standing → Type 0
@@ -161,19 +161,19 @@ call_after-by : (b : ℕ) (script : Script) (replay : Replay) (moment call : ℕ
 call_after-by b script replay moment call text None early h by' = record { moment = omega arith; marks = calls-later b replay.calls by'.marks }
 call_after-by b script replay moment call text (Some p) early h by' = record {
   moment = omega arith;
-  marks = calls-later b _ (All-push (StandsBy b) replay.calls _ by'.marks (stand_new-by b (is_full script replay) call p text moment early h))
+  marks = calls-later b _ (All-push (StandsBy b) replay.calls _ by'.marks (stand_new-by b (is_full script replay) call p text moment early h));
 }
 
 call_event-by : (b : ℕ) (replay : Replay) (moment call : ℕ) (e : Event) → moment ≤ b → IsBy b replay → IsBy (b + 2 ^ 31) (call_event replay moment call e)
 call_event-by b replay moment call e early by' = record {
   moment = omega arith;
-  marks = calls-later b _ (change_first-by (StandsBy b) (is_call call) (event_after e moment) (λ s. event_after-by b e moment s) replay.calls by'.marks)
+  marks = calls-later b _ (change_first-by (StandsBy b) (is_call call) (event_after e moment) (λ s. event_after-by b e moment s) replay.calls by'.marks);
 }
 
 call_join-by : (b : ℕ) (replay : Replay) (call : ℕ) → IsBy b replay → IsBy (b + 2 ^ 31) (call_join replay call)
 call_join-by b replay call by' = record {
   moment = joined_moment-by b replay.reached (find (is_call call) replay.calls) by'.moment (find-by b (is_call call) replay.calls by'.marks);
-  marks = calls-later b _ (change_first-by (StandsBy b) (is_call call) (joined replay.reached) (λ s. joined-by b replay.reached s by'.moment) replay.calls by'.marks)
+  marks = calls-later b _ (change_first-by (StandsBy b) (is_call call) (joined replay.reached) (λ s. joined-by b replay.reached s by'.moment) replay.calls by'.marks);
 }
 
 -- A line whose moment is within the bound.
