@@ -1,3 +1,4 @@
 pub mod Turns
 pub mod Written
 pub mod Words
+pub mod Complete

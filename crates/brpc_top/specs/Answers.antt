@@ -1,6 +1,7 @@
 -- What each status of the top call says of the bytes that were read and written. This project's own choice.
 use Rattle.std.specs.Prelude.{◌≡◌, ℕ, ◌+◌, ◌≤◌, ◌⊎◌, List, ◌∷◌, [], ◌++◌, length, take, codes, Option, None, Some, Result, Ok, Err}
 use Rattle.std.specs.Io.KnownBytes.{Appends, Consumes, IsAtEnd}
+use Rattle.rpc_base.specs.Causes.{Rose}
 use Rattle.rpc_model.specs.declared.script.Mode.TheVariants.{Sim}
 use Rattle.rpc_model.specs.declared.script.Script.{Script}
 use Rattle.rpc_model.specs.declared.script.Cause.{Cause}
@@ -65,6 +66,16 @@ IsAccepted (Some bytes) = (accepted : Script) × (script Sim bytes ≡ Ok accept
 abbrev pub IsRefused : Option (List ℕ) → Type 0
 IsRefused None = ⊥
 IsRefused (Some bytes) = (fault : ℕ × Cause) × (script Sim bytes ≡ Err fault)
+
+-- On a script that the grammar accepts the status is 0 or 9 where no count of faults rose.
+abbrev pub IsComplete : (left : Option (List ℕ)) (source_before source_now sink_before sink_now status : ℕ) → Type 0
+IsComplete left source_before source_now sink_before sink_now status =
+    IsAccepted left → (Rose source_before source_now → ⊥) → (Rose sink_before sink_now → ⊥) → (status ≡ 0) ⊎ (status ≡ 9)
+
+-- On a script that the grammar refuses the status is 5 or 9 where no count of faults rose.
+abbrev pub RefusesAll : (left : Option (List ℕ)) (source_before source_now sink_before sink_now status : ℕ) → Type 0
+RefusesAll left source_before source_now sink_before sink_now status =
+    IsRefused left → (Rose source_before source_now → ⊥) → (Rose sink_before sink_now → ⊥) → (status ≡ 5) ⊎ (status ≡ 9)
 
 -- the one list of words that is accepted
 abbrev pub sim : List (List ℕ)

@@ -481,7 +481,7 @@ fn call_number(word: &[u8]) -> Option<u32>
 }
 
 /// The pieces between the bytes that are `at`.
-pub(crate) fn cut<'a>(alloc: Global, bytes: &'a [u8], at: u8) -> Result<Vec<&'a [u8]>, AllocError>
+fn cut<'a>(alloc: Global, bytes: &'a [u8], at: u8) -> Result<Vec<&'a [u8]>, AllocError>
     ensures { IfOk result (λ pieces. map (λ p. p.now) pieces.items ≡ slice_split (λ b. b == at) bytes.now) }
 {
     bytes.split(|b| *b == at).collect(alloc)

@@ -1,11 +1,12 @@
-ghost use Rattle.std.specs.Prelude.{◌≡◌, ◌+◌, ◌^◌, ◌<◌, ◌≤◌, length, map, Ok, Err, MatchResult, IfOk};
+ghost use Rattle.std.specs.Prelude.{◌≡◌, ◌==◌, ◌≤◌, length, IfOk};
+ghost use Rattle.std.specs.List.{slice_split};
 ghost use Rattle.rpc_model.specs.Script.{script, lines_say};
 ghost use Rattle.rpc_model.specs.Lines.{nothing};
 ghost use Rattle.rpc_model.specs.Fits.{Fits};
 ghost use Rattle.call_script.specs.Judged.{Reads, SaysLines};
 
 use crate::fault::{LineFault, ScriptFault};
-use crate::reader::{Reader, cut};
+use crate::reader::Reader;
 use rpc_model::{Cause, Mode, Script};
 use std::alloc::Global;
 
@@ -24,19 +25,18 @@ pub fn read_script(alloc: Global, mode: Mode, bytes: &[u8]) -> Result<Script, Sc
     if bytes.len() > SCRIPT_LIMIT {
         return Err(ScriptFault::Bad(0, Cause::TooLong));
     }
-    let lines = cut(alloc, bytes, b'\n')?;
-    let reader = read_lines(alloc, mode, &lines)?;
+    let reader = read_lines(alloc, mode, bytes)?;
     Ok(reader.into_script())
 }
 
 /// What all the lines say.
-fn read_lines(alloc: Global, mode: Mode, lines: &[&[u8]]) -> Result<Reader, ScriptFault>
-    requires { length lines.now ≤ 2 ^ 31 }
-    ensures { SaysLines result (lines_say 1 (nothing mode) (map (λ l. l.now) lines.now)) }
+fn read_lines(alloc: Global, mode: Mode, bytes: &[u8]) -> Result<Reader, ScriptFault>
+    requires { length bytes.now ≤ 16777216 }
+    ensures { SaysLines result (lines_say 1 (nothing mode) (slice_split (λ b. b == 10) bytes.now)) }
 {
     let mut reader = Reader::new(alloc, mode);
     let mut number = 1u32;
-    for line in lines {
+    for line in bytes.split(|b| *b == b'\n') {
         match reader.line_says(line) {
             Ok(()) => number += 1,
             Err(LineFault::Refused) => return Err(ScriptFault::Bad(number, Cause::NotBuilt)),

@@ -1,15 +1,28 @@
--- One more line is judged.
-use Rattle.std.proofs.Common.{sym, ◌∙◌, arith}
-use Rattle.call_script.proofs.Said.{said-accepted, said-refused}
+-- One more line is judged; the lines are those that `split` yields.
+use Rattle.std.proofs.Common.{rules, ◌==◌, ◌+◌, ◌∷◌, [], length, sym, ◌∙◌, arith, length-append}
+use Rattle.std.proofs.lemmas.Iterator.Consumers.{YieldsList-turn, YieldsList-end}
+use Rattle.std.proofs.lemmas.Iterator.Splits.{YieldsList-from_slice_split}
+use Rattle.call_script.proofs.Said.{said-accepted, said-refused, said-all}
 use Rattle.call_script.proofs.reading.read_lines.Goals as goal
+
+pub loop-line-preserved : goal.loop-line-preserved
+loop-line-preserved c =
+    let turn = YieldsList-turn (YieldsList-from_slice_split {s = c.into_iter-line-iterator.result} _ (λ b. b == 10) c.args.bytes.now (search rules) (search rules) c.split-line-items.ensures.closure (λ x b q h. search rules))
+    c.loop-line.yielded _ c.loop-line.yielded_by _ c.next.new.self c.in-Some.line c.in-Some.is c.next.ensures.steps in
+    record {
+      said = simp length-append (sym (said-accepted _ _ _ _ (length c.loop-line.yielded) c.in-Some.line.now turn.0 turn.1 c.in-Ok.ensures) ∙ c.loop-line.invariant.said);
+      counted = simp length-append (omega (arith, c.loop-line.invariant.counted));
+    }
 
 pub returns-in-Err-Refused : goal.returns-in-Err-Refused
 returns-in-Err-Refused c =
+    let turn = YieldsList-turn (YieldsList-from_slice_split {s = c.into_iter-line-iterator.result} _ (λ b. b == 10) c.args.bytes.now (search rules) (search rules) c.split-line-items.ensures.closure (λ x b q h. search rules))
+    c.loop-line.yielded _ c.loop-line.yielded_by _ c.next.new.self c.in-Some.line c.in-Some.is c.next.ensures.steps in
     let refused = rw c.in-Err-Refused.field-0-is at c.in-Err-Refused.ensures in
-    sym c.loop-line.invariant.said ∙ said-refused _ _ c.args.lines.now c.loop-line.line-index _ c.loop-line-test.true refused
+    sym c.loop-line.invariant.said ∙ said-refused _ _ _ (length c.loop-line.yielded) c.in-Some.line.now turn.0 turn.1 refused
 
-pub loop-line-preserved : goal.loop-line-preserved
-loop-line-preserved c = record {
-  said = sym (said-accepted _ _ _ c.args.lines.now c.loop-line.line-index _ c.loop-line-test.true c.in-Ok.ensures) ∙ c.loop-line.invariant.said;
-  counted = omega arith;
-}
+pub returns : goal.returns
+returns c =
+    let all = YieldsList-end (YieldsList-from_slice_split {s = c.into_iter-line-iterator.result} _ (λ b. b == 10) c.args.bytes.now (search rules) (search rules) c.split-line-items.ensures.closure (λ x b q h. search rules))
+    c.loop-line.yielded _ c.loop-line.yielded_by _ c.next.new.self c.in-None.is c.next.ensures.steps in
+    sym c.loop-line.invariant.said ∙ said-all _ _ _ (length c.loop-line.yielded) all.1
