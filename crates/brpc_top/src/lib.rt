@@ -10,3 +10,6 @@ mod status;
 mod top;
 
 pub use top::{run, run_sim};
+
+#[cfg(test)]
+mod tests;

@@ -10,3 +10,4 @@ pub mod Lines
 pub mod Script
 pub mod Fits
 pub mod Moments
+pub mod Laws

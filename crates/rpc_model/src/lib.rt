@@ -8,6 +8,7 @@
 mod chan;
 mod codes;
 mod event;
+mod laws;
 mod script;
 mod told;
 
@@ -18,5 +19,6 @@ pub use codes::{
     ETOOMANYFAILS, retriable,
 };
 pub use event::{End, Event};
+pub use laws::{attempts_are_few, ends_stay, one_attempt, sends_are_attempts};
 pub use script::{Act, Cause, Mode, Script};
 pub use told::Told;

@@ -1,0 +1,27 @@
+-- What holds of every run of the plain machine.
+use Rattle.std.specs.Prelude.{◌≡◌, ℕ, ◌+◌, ◌≤◌, List, ◌++◌, length, Option, None, Some}
+use Rattle.rpc_model.specs.declared.chan.LeafChan.{LeafChan}
+use Rattle.rpc_model.specs.declared.event.End.{End}
+use Rattle.rpc_model.specs.declared.event.Event.{Event}
+use Rattle.rpc_model.specs.Plan.{Plan, leaf_plan}
+use Rattle.rpc_model.specs.Machine.{end_of, attempts, machine}
+
+-- An end never changes: whatever comes after it, the call keeps it.
+abbrev pub EndsStay : Type 0
+EndsStay = (plan : Plan) (call : ℕ) (request : List ℕ) (begun : ℕ) (events more : List (Event × ℕ)) (end : End)
+    → end_of (machine plan call request begun events).state ≡ Some end → end_of (machine plan call request begun (events ++ more)).state ≡ Some end
+
+-- A leaf issues one attempt at its start and at most as many more as it may retry.
+abbrev pub AttemptsAreFew : Type 0
+AttemptsAreFew = (leaf : LeafChan) (call : ℕ) (request : List ℕ) (begun : ℕ) (events : List (Event × ℕ))
+    → (1 ≤ attempts (machine (leaf_plan leaf) call request begun events).state) × (attempts (machine (leaf_plan leaf) call request begun events).state ≤ 1 + leaf.retry)
+
+-- A leaf that may not retry issues exactly one attempt.
+abbrev pub OneAttempt : Type 0
+OneAttempt = (leaf : LeafChan) (call : ℕ) (request : List ℕ) (begun : ℕ) (events : List (Event × ℕ))
+    → leaf.retry ≡ 0 → attempts (machine (leaf_plan leaf) call request begun events).state ≡ 1
+
+-- The sends of a leaf are as many as its attempts.
+abbrev pub SendsAreAttempts : Type 0
+SendsAreAttempts = (leaf : LeafChan) (call : ℕ) (request : List ℕ) (begun : ℕ) (events : List (Event × ℕ))
+    → length (machine (leaf_plan leaf) call request begun events).sends ≡ attempts (machine (leaf_plan leaf) call request begun events).state

@@ -1,0 +1,23 @@
+//! Laws of the plain machine, each as the contract of a function that does nothing.
+
+ghost use Rattle.rpc_model.specs.Laws.{EndsStay, AttemptsAreFew, OneAttempt, SendsAreAttempts};
+
+/// An end never changes, whatever comes after it.
+pub fn ends_stay()
+    ensures { EndsStay }
+{}
+
+/// A plain channel's call issues one attempt at its start, and at most as many more as its retry limit.
+pub fn attempts_are_few()
+    ensures { AttemptsAreFew }
+{}
+
+/// A call on a plain channel without retry issues exactly one attempt.
+pub fn one_attempt()
+    ensures { OneAttempt }
+{}
+
+/// A plain channel's call sends as many requests as it issues attempts.
+pub fn sends_are_attempts()
+    ensures { SendsAreAttempts }
+{}
