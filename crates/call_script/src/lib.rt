@@ -10,3 +10,6 @@ mod writing;
 pub use fault::ScriptFault;
 pub use reading::{SCRIPT_LIMIT, read_script};
 pub use writing::{write_refusal, write_told};
+
+#[cfg(test)]
+mod tests;

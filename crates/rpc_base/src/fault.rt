@@ -1,3 +1,5 @@
+ghost use Rattle.std.specs.Prelude.{Some, codes};
+
 use std::alloc::{AllocError, AllocFailed};
 use std::error::Error;
 use std::fmt;
@@ -11,12 +13,16 @@ pub struct Failed;
 pub struct NoMemory;
 
 impl fmt::Display for Failed {
+    ghost output = { λ _. Some (codes "an object of the outside failed") };
+
     fn fmt<W: fmt::Write>(&self, f: &mut fmt::Formatter<W>) -> fmt::Result {
         f.write_str("an object of the outside failed")
     }
 }
 
 impl fmt::Display for NoMemory {
+    ghost output = { λ _. Some (codes "memory ran out") };
+
     fn fmt<W: fmt::Write>(&self, f: &mut fmt::Formatter<W>) -> fmt::Result {
         f.write_str("memory ran out")
     }

@@ -20,3 +20,6 @@ pub use mem_sink::MemSink;
 pub use mem_source::MemSource;
 pub use sink::Sink;
 pub use source::Source;
+
+#[cfg(test)]
+mod tests;

@@ -1,3 +1,4 @@
 pub mod First
 pub mod MomentsStay
 pub mod Runs
+pub mod Once

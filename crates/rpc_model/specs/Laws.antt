@@ -1,10 +1,14 @@
 -- What holds of every run of the plain machine.
-use Rattle.std.specs.Prelude.{◌≡◌, ℕ, ◌+◌, ◌≤◌, List, ◌++◌, length, Option, None, Some}
+use Rattle.std.specs.Prelude.{◌≡◌, ℕ, ◌+◌, ◌≤◌, Bool, false, ◌==◌, List, ◌++◌, length, count_by, Option, None, Some}
 use Rattle.rpc_model.specs.declared.chan.LeafChan.{LeafChan}
 use Rattle.rpc_model.specs.declared.event.End.{End}
 use Rattle.rpc_model.specs.declared.event.Event.{Event}
+use Rattle.rpc_model.specs.declared.script.Script.{Script}
+use Rattle.rpc_model.specs.declared.told.Told.{Told}
+use Rattle.rpc_model.specs.declared.told.Told.TheVariants.{Ended, Unended, Full, Gone}
 use Rattle.rpc_model.specs.Plan.{Plan, leaf_plan}
 use Rattle.rpc_model.specs.Machine.{end_of, attempts, machine}
+use Rattle.rpc_model.specs.Told.{told}
 
 -- An end never changes: whatever comes after it, the call keeps it.
 abbrev pub EndsStay : Type 0
@@ -25,3 +29,14 @@ OneAttempt = (leaf : LeafChan) (call : ℕ) (request : List ℕ) (begun : ℕ) (
 abbrev pub SendsAreAttempts : Type 0
 SendsAreAttempts = (leaf : LeafChan) (call : ℕ) (request : List ℕ) (begun : ℕ) (events : List (Event × ℕ))
     → length (machine (leaf_plan leaf) call request begun events).sends ≡ attempts (machine (leaf_plan leaf) call request begun events).state
+
+-- the end of the call of this number is told
+abbrev pub is_end_of : ℕ → Told → Bool
+is_end_of call (Ended c end attempts) = c == call
+is_end_of call (Unended c) = false
+is_end_of call (Full c) = false
+is_end_of call (Gone c) = false
+
+-- The end of a call is told once at the most.
+abbrev pub ToldOnce : Type 0
+ToldOnce = (script : Script) (call : ℕ) → count_by (is_end_of call) (told script) ≤ 1

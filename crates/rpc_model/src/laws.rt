@@ -1,6 +1,6 @@
 //! Laws of the plain machine, each as the contract of a function that does nothing.
 
-ghost use Rattle.rpc_model.specs.Laws.{EndsStay, AttemptsAreFew, OneAttempt, SendsAreAttempts};
+ghost use Rattle.rpc_model.specs.Laws.{EndsStay, AttemptsAreFew, OneAttempt, SendsAreAttempts, ToldOnce};
 
 /// An end never changes, whatever comes after it.
 pub fn ends_stay()
@@ -20,4 +20,9 @@ pub fn one_attempt()
 /// A plain channel's call sends as many requests as it issues attempts.
 pub fn sends_are_attempts()
     ensures { SendsAreAttempts }
+{}
+
+/// The joins of a script tell the end of a call at most once.
+pub fn told_once()
+    ensures { ToldOnce }
 {}

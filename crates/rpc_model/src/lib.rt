@@ -19,6 +19,9 @@ pub use codes::{
     ETOOMANYFAILS, retriable,
 };
 pub use event::{End, Event};
-pub use laws::{attempts_are_few, ends_stay, one_attempt, sends_are_attempts};
+pub use laws::{attempts_are_few, ends_stay, one_attempt, sends_are_attempts, told_once};
 pub use script::{Act, Cause, Mode, Script};
 pub use told::Told;
+
+#[cfg(test)]
+mod tests;
