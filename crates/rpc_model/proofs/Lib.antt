@@ -2,3 +2,4 @@ pub mod First
 pub mod MomentsStay
 pub mod Runs
 pub mod Once
+pub mod Attempts

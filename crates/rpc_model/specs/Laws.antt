@@ -1,8 +1,11 @@
 -- What holds of every run of the plain machine.
-use Rattle.std.specs.Prelude.{◌≡◌, ℕ, ◌+◌, ◌≤◌, Bool, false, ◌==◌, List, ◌++◌, length, count_by, Option, None, Some}
+use Rattle.std.specs.Prelude.{◌≡◌, ℕ, ◌+◌, ◌<◌, ◌≤◌, Bool, true, false, ◌==◌, fold, List, ◌++◌, length, count_by, Option, None, Some}
 use Rattle.rpc_model.specs.declared.chan.LeafChan.{LeafChan}
 use Rattle.rpc_model.specs.declared.event.End.{End}
+use Rattle.rpc_model.specs.declared.event.End.TheVariants.{Good}
 use Rattle.rpc_model.specs.declared.event.Event.{Event}
+use Rattle.rpc_model.specs.declared.event.Event.TheVariants.{Reply, Lost}
+use Rattle.rpc_model.specs.Leaf.{Leaf, is_live, leaf_step}
 use Rattle.rpc_model.specs.declared.script.Script.{Script}
 use Rattle.rpc_model.specs.declared.told.Told.{Told}
 use Rattle.rpc_model.specs.declared.told.Told.TheVariants.{Ended, Unended, Full, Gone}
@@ -29,6 +32,19 @@ OneAttempt = (leaf : LeafChan) (call : ℕ) (request : List ℕ) (begun : ℕ) (
 abbrev pub SendsAreAttempts : Type 0
 SendsAreAttempts = (leaf : LeafChan) (call : ℕ) (request : List ℕ) (begun : ℕ) (events : List (Event × ℕ))
     → length (machine (leaf_plan leaf) call request begun events).sends ≡ attempts (machine (leaf_plan leaf) call request begun events).state
+
+-- An attempt that was issued and replaced does nothing any more, whatever comes later: neither its reply nor its loss.
+abbrev pub ReplacedAttemptsDoNothing : Type 0
+ReplacedAttemptsDoNothing = (retry : ℕ) (leaf : Leaf) (attempt : ℕ) (events : List Event) (node code : ℕ) (text : List ℕ)
+    → attempt < leaf.issued → is_live leaf attempt ≡ false
+    → let later = fold (leaf_step retry) leaf events in
+    (leaf_step retry later (Reply node attempt code text) ≡ later) × (leaf_step retry later (Lost node attempt code) ≡ later)
+
+-- A leaf ends with a text only at a reply of code 0 with this text to an attempt that is live then.
+abbrev pub SuccessNeedsALiveReply : Type 0
+SuccessNeedsALiveReply = (retry : ℕ) (leaf : Leaf) (event : Event) (text : List ℕ)
+    → leaf.end ≡ None → (leaf_step retry leaf event).end ≡ Some (Good text)
+    → (node : ℕ) × (attempt : ℕ) × (event ≡ Reply node attempt 0 text) × (is_live leaf attempt ≡ true)
 
 -- the end of the call of this number is told
 abbrev pub is_end_of : ℕ → Told → Bool

@@ -1,6 +1,6 @@
 //! Laws of the plain machine, each as the contract of a function that does nothing.
 
-ghost use Rattle.rpc_model.specs.Laws.{EndsStay, AttemptsAreFew, OneAttempt, SendsAreAttempts, ToldOnce};
+ghost use Rattle.rpc_model.specs.Laws.{EndsStay, AttemptsAreFew, OneAttempt, ReplacedAttemptsDoNothing, SendsAreAttempts, SuccessNeedsALiveReply, ToldOnce};
 
 /// An end never changes, whatever comes after it.
 pub fn ends_stay()
@@ -25,4 +25,14 @@ pub fn sends_are_attempts()
 /// The joins of a script tell the end of a call at most once.
 pub fn told_once()
     ensures { ToldOnce }
+{}
+
+/// An attempt that was replaced never ends its leaf: neither its reply nor its loss does anything.
+pub fn replaced_attempts_do_nothing()
+    ensures { ReplacedAttemptsDoNothing }
+{}
+
+/// A success comes only from a reply of code 0 to an attempt that is live at that moment.
+pub fn success_needs_a_live_reply()
+    ensures { SuccessNeedsALiveReply }
 {}

@@ -19,7 +19,10 @@ pub use codes::{
     ETOOMANYFAILS, retriable,
 };
 pub use event::{End, Event};
-pub use laws::{attempts_are_few, ends_stay, one_attempt, sends_are_attempts, told_once};
+pub use laws::{
+    attempts_are_few, ends_stay, one_attempt, replaced_attempts_do_nothing, sends_are_attempts,
+    success_needs_a_live_reply, told_once,
+};
 pub use script::{Act, Cause, Mode, Script};
 pub use told::Told;
 
