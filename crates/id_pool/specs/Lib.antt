@@ -1,0 +1,9 @@
+pub mod Answers
+pub mod CellLends
+pub mod CellView
+pub mod Ids
+pub mod Places
+pub mod Ranges
+pub mod Vacancies
+pub mod ValueLends
+pub mod View
