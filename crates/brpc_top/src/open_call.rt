@@ -70,7 +70,7 @@ impl OpenCall {
     pub(crate) fn attempts(&self) -> u32
         ensures { result ≡ attempts self.now.state }
     {
-        let _call = &self.call;
+        let _ = &self.call;
         1
     }
 
@@ -88,11 +88,10 @@ impl OpenCall {
         }
     }
 
-    /// Takes an event at a moment.
-    pub(crate) fn apply(&mut self, event: Event, moment: u64)
-        ensures { self.new ≡ apply self.old event moment }
+    /// Takes an event, at whatever moment: it sets no mark.
+    pub(crate) fn apply(&mut self, event: Event)
+        ensures { (moment : ℕ) → self.new ≡ apply self.old event moment }
     {
-        let _moment = moment;
         if self.end.is_some() {
             return;
         }

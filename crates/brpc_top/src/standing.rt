@@ -69,7 +69,7 @@ impl Standing {
         match &mut self.stand {
             Stand::Begun(call) => {
                 call.weave(moment);
-                call.apply(event, moment);
+                call.apply(event);
             }
             Stand::Full(_) => {}
             Stand::Told(_) => {}

@@ -1,5 +1,5 @@
 -- What a result of the reader's code says of the script grammar's word. This project's own choice.
-use Rattle.std.specs.Prelude.{◌≡◌, ℕ, List, Option, None, Some, Result, Ok, Err}
+use Rattle.std.specs.Prelude.{◌≡◌, ℕ, Option, None, Some, Result, Ok, Err}
 use Rattle.rpc_model.specs.Lines.{Before}
 use Rattle.rpc_model.specs.declared.script.Script.{Script}
 use Rattle.rpc_model.specs.declared.script.Cause.{Cause}

@@ -77,11 +77,10 @@ impl Reader {
     }
 
     /// How many attempts a call on this channel may issue.
-    fn attempts_on(&self, chan: u32, call: u32) -> u64
-        ensures value { result ≡ lines.attempts_of (plan self.now.chans chan call) }
+    fn attempts_on(&self, chan: u32) -> u64
+        ensures value { (call : ℕ) → result ≡ lines.attempts_of (plan self.now.chans chan call) }
         ensures bound { result ≤ 2 ^ 32 }
     {
-        let _call = call;
         match self.chans.get(chan as usize) {
             Some(Chan::Leaf(leaf)) => u64::from(leaf.retry) + 1,
             None => 0,
@@ -89,10 +88,9 @@ impl Reader {
     }
 
     /// Whether the node is a leaf of the channel's plan that may issue the attempt.
-    fn has_attempt(&self, chan: u32, call: u32, node: u32, attempt: u32) -> bool
-        ensures { result ≡ lines.has_attempt (plan self.now.chans chan call) node attempt }
+    fn has_attempt(&self, chan: u32, node: u32, attempt: u32) -> bool
+        ensures { (call : ℕ) → result ≡ lines.has_attempt (plan self.now.chans chan call) node attempt }
     {
-        let _call = call;
         match self.chans.get(chan as usize) {
             Some(Chan::Leaf(leaf)) => node == 0 && attempt <= leaf.retry,
             None => false,
@@ -287,7 +285,7 @@ impl Reader {
         if self.calls.len() >= self.call_limit() {
             return Err(LineFault::Refused);
         }
-        let weight = (payload.len() as u64 + 128) * self.attempts_on(chan, call);
+        let weight = (payload.len() as u64 + 128) * self.attempts_on(chan);
         if self.weight + weight > self.weight_limit() {
             return Err(LineFault::Refused);
         }
@@ -329,7 +327,7 @@ impl Reader {
         let Some((node, attempt)) = attempt_word(attempt) else {
             return Err(LineFault::Refused);
         };
-        if !self.has_attempt(chan, call, node, attempt) {
+        if !self.has_attempt(chan, node, attempt) {
             return Err(LineFault::Refused);
         }
         let Some(code) = number(code, 0, 65_535) else {

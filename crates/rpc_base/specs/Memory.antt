@@ -1,5 +1,5 @@
 -- What the source and the sink in memory are: their bytes, how they cut them, and the calls that are to fail. This project's own choice.
-use Rattle.std.specs.Prelude.{◌≡◌, ℕ, ◌+◌, ◌-◌, ◌^◌, ◌++◌, min, List, length, take, drop, Contains}
+use Rattle.std.specs.Prelude.{ℕ, ◌+◌, ◌-◌, ◌^◌, ◌++◌, min, List, take, drop}
 
 -- a source in memory: the bytes left, the most that a call gives, the numbers of the calls that fail, and two counts
 pub record Tape : Type 0 where

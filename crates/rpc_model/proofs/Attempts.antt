@@ -1,5 +1,5 @@
 -- Attempts that were replaced, and the reply that a success needs.
-use Rattle.std.proofs.Common.{◌≡◌, ℕ, ◌+◌, ◌<◌, ◌≤◌, Bool, true, false, cond, ◌&&◌, ◌||◌, ◌==◌, not, nat_le, List, [], ◌∷◌, fold, Option, Some, None, is_none, arith, refl, ap, sym, ◌∙◌, subst}
+use Rattle.std.proofs.Common.{◌≡◌, ℕ, ◌<◌, Bool, true, false, cond, ◌&&◌, ◌||◌, ◌==◌, not, List, [], ◌∷◌, fold, Option, Some, None, is_none, arith, refl}
 use Rattle.rpc_model.specs.declared.event.End.{End}
 use Rattle.rpc_model.specs.declared.event.End.TheVariants.{Good, Bad}
 use Rattle.rpc_model.specs.declared.event.Event.{Event}

@@ -1,20 +1,19 @@
 -- A line of an accepted script raises the bound on the moments of a replay by the longest wait.
-use Rattle.std.proofs.Common.{◌≡◌, ℕ, zero, suc, ◌+◌, ◌^◌, ◌<◌, ◌≤◌, max, Bool, true, false, cond, nat_le, List, [], ◌∷◌, ◌++◌, length, All, find, Option, Some, None, is_some, arith, refl}
+use Rattle.std.proofs.Common.{◌≡◌, ℕ, zero, suc, ◌+◌, ◌^◌, ◌<◌, ◌≤◌, max, Bool, true, false, cond, nat_le, List, [], ◌∷◌, All, find, Option, Some, None, is_some, arith, refl}
 use Rattle.std.proofs.lemmas.List.Elements.{All-nil, All-cons, All-head, All-tail, All-append, All-push, All-weaker}
 use Rattle.rpc_model.specs.declared.chan.Chan.{Chan}
 use Rattle.rpc_model.specs.declared.chan.Chan.TheVariants as chan
-use Rattle.rpc_model.specs.declared.chan.LeafChan.{LeafChan}
 use Rattle.rpc_model.specs.declared.event.End.{End}
 use Rattle.rpc_model.specs.declared.event.Event.{Event}
 use Rattle.rpc_model.specs.declared.event.Event.TheVariants as event
 use Rattle.rpc_model.specs.declared.script.Script.{Script}
 use Rattle.rpc_model.specs.declared.script.Act.{Act}
 use Rattle.rpc_model.specs.declared.script.Act.TheVariants.{Call, Cancel, Reply, Tick, Join}
-use Rattle.rpc_model.specs.Fits.{Fits, IsPlain, IsPlainLeaf, IsWait, moment_of}
-use Rattle.rpc_model.specs.Leaf.{Leaf, leaf_step}
+use Rattle.rpc_model.specs.Fits.{IsPlain, IsPlainLeaf, IsWait, moment_of}
+use Rattle.rpc_model.specs.Leaf.{leaf_step}
 use Rattle.rpc_model.specs.Plan.{Plan, leaf_plan, plan}
-use Rattle.rpc_model.specs.Machine.{State, leaf_state, Mark, MarkKind, deadline, backup, Run, step, step_at, is_at, leaf_run, quiet, end_of, mark_after}
-use Rattle.rpc_model.specs.Marks.{Begun, begin, apply, least_mark, lesser, is_before, take_mark, mark_event, weave_at_most, weave_least, most_marks, weave, finish_at_most, finish_least, finish}
+use Rattle.rpc_model.specs.Machine.{State, leaf_state, Mark, MarkKind, deadline, backup, step, step_at, is_at, leaf_run, quiet, end_of, mark_after}
+use Rattle.rpc_model.specs.Marks.{Begun, begin, apply, least_mark, lesser, is_before, take_mark, mark_event, weave_at_most, weave_least, most_marks, weave, finish_at_most, finish_least}
 use Rattle.rpc_model.specs.Told.{Standing, begun, full, told_of, Replay, change_first, stand_new, call_after, is_full, event_after, stand_joined, joined, joined_moment, is_call, call_event, call_join, after}
 use Rattle.rpc_model.specs.Moments.{MarkBy, StandsBy, IsBy}
 

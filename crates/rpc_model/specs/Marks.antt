@@ -3,7 +3,7 @@ use Rattle.std.specs.Prelude.{ℕ, zero, suc, ◌+◌, ◌*◌, Bool, ◌==◌, 
 use Rattle.rpc_model.specs.declared.event.Event.{Event}
 use Rattle.rpc_model.specs.declared.event.Event.TheVariants as event
 use Rattle.rpc_model.specs.Plan.{Plan, nodes}
-use Rattle.rpc_model.specs.Machine.{State, Mark, MarkKind, deadline, backup, Run, start, step, end_of}
+use Rattle.rpc_model.specs.Machine.{State, Mark, MarkKind, deadline, backup, start, step, end_of}
 
 -- a call that has begun: what it is, how it stands, and its marks that were set and not yet taken
 pub record Begun : Type 0 where

@@ -1,5 +1,5 @@
 -- How late the moments of a replay are: a bound that every line of an accepted script raises by little.
-use Rattle.std.specs.Prelude.{ℕ, ◌+◌, ◌^◌, ◌≤◌, List, All}
+use Rattle.std.specs.Prelude.{ℕ, ◌+◌, ◌^◌, ◌≤◌, All}
 use Rattle.rpc_model.specs.Machine.{Mark}
 use Rattle.rpc_model.specs.Told.{Standing, begun, full, told_of, Replay}
 

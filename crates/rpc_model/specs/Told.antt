@@ -1,5 +1,5 @@
 -- What the joins of a script tell: the calls, the moment reached, and one line after the other. This project's own choice.
-use Rattle.std.specs.Prelude.{ℕ, Bool, true, false, ◌==◌, nat_lt, nat_le, max, List, [], ◌∷◌, ◌++◌, find, count_by, Option, None, Some, if◌then◌else◌}
+use Rattle.std.specs.Prelude.{ℕ, Bool, true, false, ◌==◌, nat_le, max, List, [], ◌∷◌, ◌++◌, find, count_by, Option, None, Some, if◌then◌else◌}
 use Rattle.rpc_model.specs.declared.event.End.{End}
 use Rattle.rpc_model.specs.declared.event.Event.{Event}
 use Rattle.rpc_model.specs.declared.event.Event.TheVariants as event

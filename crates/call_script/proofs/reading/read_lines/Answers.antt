@@ -1,5 +1,5 @@
 -- One more line is judged; the lines are those that `split` yields.
-use Rattle.std.proofs.Common.{rules, ◌==◌, ◌+◌, ◌∷◌, [], length, sym, ◌∙◌, arith, length-append}
+use Rattle.std.proofs.Common.{rules, ◌==◌, length, sym, ◌∙◌, arith, length-append}
 use Rattle.std.proofs.lemmas.Iterator.Consumers.{YieldsList-turn, YieldsList-end}
 use Rattle.std.proofs.lemmas.Iterator.Splits.{YieldsList-from_slice_split}
 use Rattle.call_script.proofs.Said.{said-accepted, said-refused, said-all}
