@@ -1,5 +1,5 @@
 -- Without a fault the script decides the status.
-use Rattle.std.proofs.Common.{◌≡◌, ℕ, ◌+◌, ◌<◌, ◌≤◌, ◌⊎◌, inl, inr, List, [], ◌++◌, length, Option, Some, None, Result, Ok, Err, ap, sym, ◌∙◌, arith, length-append, true, nat_lt, refl}
+use Rattle.std.proofs.Common.{◌≡◌, ℕ, ◌<◌, ◌≤◌, ◌⊎◌, inl, inr, List, [], ◌++◌, length, Option, Some, None, Result, Ok, Err, ap, sym, ◌∙◌, arith, length-append, true, nat_lt, refl}
 use Rattle.std.proofs.lemmas.List.{append-nil}
 use Rattle.rpc_base.specs.Causes.{Rose}
 use Rattle.rpc_model.specs.declared.script.Mode.TheVariants.{Sim}

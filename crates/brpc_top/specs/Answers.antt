@@ -1,5 +1,5 @@
 -- What each status of the top call says of the bytes that were read and written. This project's own choice.
-use Rattle.std.specs.Prelude.{◌≡◌, ℕ, ◌+◌, ◌≤◌, ◌⊎◌, List, ◌∷◌, [], ◌++◌, length, take, codes, Option, None, Some, Result, Ok, Err}
+use Rattle.std.specs.Prelude.{◌≡◌, ℕ, ◌≤◌, ◌⊎◌, List, ◌∷◌, [], ◌++◌, length, take, codes, Option, None, Some, Result, Ok, Err}
 use Rattle.std.specs.Io.KnownBytes.{Appends, Consumes, IsAtEnd}
 use Rattle.rpc_base.specs.Causes.{Rose}
 use Rattle.rpc_model.specs.declared.script.Mode.TheVariants.{Sim}

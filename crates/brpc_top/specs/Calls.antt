@@ -8,7 +8,7 @@ use Rattle.rpc_model.specs.declared.codes.TheConstants.{ERPCTIMEDOUT, ECANCELED}
 use Rattle.rpc_model.specs.declared.chan.LeafChan.{LeafChan}
 use Rattle.rpc_model.specs.Leaf.{Leaf, started}
 use Rattle.rpc_model.specs.Plan.{leaf_plan}
-use Rattle.rpc_model.specs.Machine.{State, leaf_state, Mark, deadline}
+use Rattle.rpc_model.specs.Machine.{leaf_state, Mark, deadline}
 use Rattle.rpc_model.specs.Marks.{Begun}
 
 -- the leaf that issued its one attempt, with this end or none

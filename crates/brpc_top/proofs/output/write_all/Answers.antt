@@ -1,5 +1,5 @@
 -- One more piece was written.
-use Rattle.std.proofs.Common.{rules, arith}
+use Rattle.std.proofs.Common.{arith}
 use Rattle.brpc_top.proofs.Written.{Appends-take}
 use Rattle.brpc_top.proofs.output.write_all.Goals as goal
 

@@ -1,6 +1,5 @@
 -- One word is compared with the accepted one.
-use Rattle.std.proofs.Common.{rules, ◌≡◌, ℕ, List, ◌∷◌, [], map, string_bytes, IsTrue, codes, ap, sym, ◌∙◌}
-use Rattle.brpc_top.specs.Answers.{sim}
+use Rattle.std.proofs.Common.{string_bytes, codes}
 use Rattle.brpc_top.proofs.Words.{single, one_word}
 use Rattle.brpc_top.proofs.top.is_sim.Goals as goal
 

@@ -1,5 +1,5 @@
 -- The call that is named is the first of its number.
-use Rattle.std.proofs.Common.{◌≡◌, List, sym, ap, ◌∙◌}
+use Rattle.std.proofs.Common.{List, sym, ap, ◌∙◌}
 use Rattle.rpc_model.proofs.First.{changed, unchanged}
 use Rattle.rpc_model.specs.Told as spec
 use Rattle.brpc_top.proofs.replay.Replay.event.Goals as goal

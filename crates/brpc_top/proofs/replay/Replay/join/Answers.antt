@@ -1,5 +1,5 @@
 -- The call that is named is the first of its number.
-use Rattle.std.proofs.Common.{◌≡◌, ℕ, List, [], Option, sym, ap, ◌++◌, ◌∙◌}
+use Rattle.std.proofs.Common.{sym}
 use Rattle.std.proofs.lemmas.List.{append-nil}
 use Rattle.rpc_model.proofs.First.{changed, unchanged, found, unfound}
 use Rattle.rpc_model.specs.Told as spec
