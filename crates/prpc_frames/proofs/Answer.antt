@@ -1,5 +1,5 @@
 -- What a piece is answered.
-use Rattle.std.proofs.Common.{◌≡◌, ℕ, List, ◌++◌, Option, Some, None, Result, Ok, Err, IfSome, refl, ap, sym, subst, ◌∙◌}
+use Rattle.std.proofs.Common.{◌≡◌, ℕ, List, ◌++◌, Option, Some, None, Result, Err, IfSome, refl, ap, sym, subst, ◌∙◌}
 use Rattle.prpc_frames.specs.declared.fault.FeedFault.{FeedFault}
 use Rattle.prpc_frames.specs.declared.fault.FeedFault.TheVariants.{Magic, TooLarge, MetaPastBody, Meta, Compressed, Attachment, Memory}
 use Rattle.prpc_frames.specs.Stream.Reading.{Stream, frames, joined, fed_after, fed}

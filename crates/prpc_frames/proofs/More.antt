@@ -1,5 +1,5 @@
 -- What is there whole at the front of bytes, and the first fault, stay when more bytes come.
-use Rattle.std.proofs.Common.{◌≡◌, ℕ, zero, suc, ◌+◌, ◌≤◌, Bool, true, false, cond, ltb, eqb, List, [], ◌∷◌, ◌++◌, length, take, drop, Option, Some, None, Result, Ok, Err, refl, ap, sym, subst, ◌∙◌, arith}
+use Rattle.std.proofs.Common.{◌≡◌, ℕ, ◌+◌, ◌≤◌, Bool, true, false, cond, ltb, eqb, List, [], ◌∷◌, ◌++◌, length, take, drop, Option, Some, None, Result, Ok, Err, refl, ap, sym, subst, ◌∙◌, arith}
 use Rattle.std.proofs.lemmas.Bool.{ltb-false, le-ltb}
 use Rattle.std.proofs.lemmas.List.{length-append, length-drop, take-append-le, drop-append-le}
 use Rattle.byteorder.specs.Endian.{big_number}
@@ -7,8 +7,6 @@ use Rattle.byteorder.specs.Numbers.{big_from-append}
 use Rattle.prpc_frames.specs.declared.fault.FeedFault.{FeedFault}
 use Rattle.prpc_frames.specs.declared.fault.FeedFault.TheVariants.{Magic}
 use Rattle.prpc_frames.specs.declared.header.Sizes.{Sizes}
-use Rattle.prpc_frames.specs.declared.frame.Frame.{Frame}
-use Rattle.prpc_frames.specs.declared.reading.Whole.{Whole}
 use Rattle.prpc_frames.specs.Stream.Reading.{◌>>=◌, later, magic, begins, number_at, sizes, header, body, whole, frame}
 use Rattle.prpc_frames.proofs.Sized.{IfThere, header_there}
 

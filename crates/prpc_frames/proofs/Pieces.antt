@@ -1,10 +1,10 @@
 -- The stream doesn't depend on how its bytes are cut.
-use Rattle.std.proofs.Common.{◌≡◌, ℕ, zero, suc, ◌+◌, ◌≤◌, List, [], ◌∷◌, ◌++◌, length, drop, Option, Some, None, Result, Ok, Err, refl, ap, sym, ◌∙◌, arith}
+use Rattle.std.proofs.Common.{◌≡◌, ℕ, zero, suc, ◌≤◌, List, [], ◌∷◌, ◌++◌, length, drop, Option, Some, None, Result, Ok, Err, refl, ap, sym, ◌∙◌, arith}
 use Rattle.std.proofs.lemmas.List.{length-drop, drop-append-le, append_assoc, append-nil}
 use Rattle.prpc_frames.specs.declared.fault.FeedFault.{FeedFault}
 use Rattle.prpc_frames.specs.declared.frame.Frame.{Frame}
 use Rattle.prpc_frames.specs.declared.reading.Whole.{Whole}
-use Rattle.prpc_frames.specs.Stream.Reading.{later, frame, Stream, before, first_of, frames, begun, joined, fed_after, fed, fed_all, all_of}
+use Rattle.prpc_frames.specs.Stream.Reading.{later, frame, Stream, before, first_of, frames, begun, fed, fed_all, all_of}
 use Rattle.prpc_frames.proofs.Sized.{IfThere, frame_there}
 use Rattle.prpc_frames.proofs.Steps.{frames_first, frames_by, frames_none}
 use Rattle.prpc_frames.proofs.More.{Stays, frame_stays}

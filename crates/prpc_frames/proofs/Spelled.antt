@@ -1,19 +1,15 @@
 -- The spelling of a frame is read as that frame.
-use Rattle.std.proofs.Common.{◌≡◌, ℕ, suc, All, ◌+◌, ◌-◌, ◌^◌, ◌≤◌, ◌<◌, ℤ, pos, Bool, true, false, cond, ltb, List, [], ◌∷◌, ◌++◌, length, take, drop, Option, Some, None, Result, Ok, Err, IfSome, refl, ap, sym, ◌∙◌, arith}
+use Rattle.std.proofs.Common.{◌≡◌, ℕ, suc, All, ◌+◌, ◌-◌, ◌^◌, ◌≤◌, ◌<◌, ℤ, pos, false, ltb, List, [], ◌∷◌, ◌++◌, length, take, drop, Option, Some, None, Ok, IfSome, refl, ap, sym, ◌∙◌, arith}
 use Rattle.std.proofs.lemmas.Bool.{le-ltb}
 use Rattle.std.proofs.lemmas.List.{length-append, drop-drop, append_assoc}
 use Rattle.std.proofs.Math.Seq.{take-append_seam, drop-append_seam}
-use Rattle.byteorder.specs.Endian.{big_number, big_bytes}
+use Rattle.byteorder.specs.Endian.{big_number}
 use Rattle.byteorder.specs.Numbers.{big_number-reads_back, length-bytes_high_first}
-use Rattle.rpc_meta.specs.declared.fault.MetaFault.{MetaFault}
 use Rattle.rpc_meta.specs.declared.meta.Meta as meta_type
 use Rattle.rpc_meta.specs.Meta.{meta, meta_bytes}
 use Rattle.rpc_meta.specs.Meta.Spelling.{IsWritable, IsSized}
-use Rattle.prpc_frames.specs.declared.fault.FeedFault.{FeedFault}
-use Rattle.prpc_frames.specs.declared.header.Sizes.{Sizes}
 use Rattle.prpc_frames.specs.declared.frame.Frame.{Frame}
-use Rattle.prpc_frames.specs.declared.reading.Whole.{Whole}
-use Rattle.prpc_frames.specs.Stream.Reading.{◌>>=◌, later, magic, begins, number_at, sizes, header, is_compressed, attached, named, content, body, whole, frame, Stream, before, first_of, frames, joined}
+use Rattle.prpc_frames.specs.Stream.Reading.{later, magic, begins, number_at, sizes, header, is_compressed, attached, content, body, whole, frame, Stream, before, frames, joined}
 use Rattle.prpc_frames.specs.Stream.Spelling.{number_bytes, body_bytes, frame_bytes, all_bytes, IsTold, IsFitting, IsTyped}
 use Rattle.prpc_frames.proofs.Small.{small_sized}
 use Rattle.prpc_frames.proofs.Steps.{frames_by}

@@ -1,10 +1,10 @@
 -- The whole frames that were taken so far, and the stream behind them.
-use Rattle.std.proofs.Common.{◌≡◌, ℕ, ◌+◌, ◌≤◌, List, [], ◌∷◌, ◌++◌, length, drop, Option, Some, None, Result, Ok, Err, IfOk, IfSome, refl, ap, sym, subst, ◌∙◌, arith}
+use Rattle.std.proofs.Common.{◌≡◌, ℕ, ◌+◌, ◌≤◌, List, [], ◌∷◌, ◌++◌, length, drop, Option, Some, None, Result, Ok, Err, IfOk, IfSome, ap, sym, subst, ◌∙◌, arith}
 use Rattle.std.proofs.lemmas.List.{drop-drop, append_assoc, append-nil, drop_all}
 use Rattle.prpc_frames.specs.declared.fault.FeedFault.{FeedFault}
 use Rattle.prpc_frames.specs.declared.frame.Frame.{Frame}
 use Rattle.prpc_frames.specs.declared.reading.Whole.{Whole}
-use Rattle.prpc_frames.specs.Stream.Reading.{later, frame, Stream, before, first_of, frames, joined}
+use Rattle.prpc_frames.specs.Stream.Reading.{later, frame, Stream, before, frames, joined}
 use Rattle.prpc_frames.specs.Seen.{stream_seen}
 use Rattle.prpc_frames.proofs.Steps.{frames_by}
 

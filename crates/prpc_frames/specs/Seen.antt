@@ -1,5 +1,5 @@
 -- How an answer of the code stands to the definition: this project's own choice.
-use Rattle.std.specs.Prelude.{◌≡◌, ◌≢◌, ℕ, List, [], ◌∷◌, drop, Option, Some, None, Result, Ok, Err}
+use Rattle.std.specs.Prelude.{◌≡◌, ◌≢◌, ℕ, List, [], drop, Option, Some, None, Result, Ok, Err}
 use Rattle.rpc_meta.specs.declared.fault.MetaFault.TheVariants as meta_fault
 use Rattle.prpc_frames.specs.declared.fault.FeedFault.{FeedFault}
 use Rattle.prpc_frames.specs.declared.fault.FeedFault.TheVariants.{Meta, Memory}

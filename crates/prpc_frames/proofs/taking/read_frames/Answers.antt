@@ -1,5 +1,4 @@
-use Rattle.std.proofs.Common.{◌≡◌, ◌+◌, ◌≤◌, ◌∙◌, length, ap, sym, drop, Option, Result, Some, None, Ok, Err, arith}
-use Rattle.prpc_frames.specs.declared.fault.FeedFault.{FeedFault}
+use Rattle.std.proofs.Common.{◌≡◌, ◌≤◌, ◌∙◌, length, ap, sym, drop, Option, Some, None, Ok, Err, arith}
 use Rattle.prpc_frames.specs.declared.reading.Whole.{Whole}
 use Rattle.prpc_frames.specs.Stream.Reading.{frame}
 use Rattle.prpc_frames.proofs.Taken.{one_more, no_more, bad_next, whole_inside}

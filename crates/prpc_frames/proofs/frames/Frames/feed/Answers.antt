@@ -1,4 +1,4 @@
-use Rattle.std.proofs.Common.{◌≡◌, ◌++◌, ◌∙◌, refl, ap, sym}
+use Rattle.std.proofs.Common.{◌++◌, ◌∙◌, refl, ap, sym}
 use Rattle.prpc_frames.specs.Stream.Reading.{Stream, frames, joined}
 use Rattle.prpc_frames.proofs.Answer.{takes_again, takes_piece}
 use Rattle.prpc_frames.proofs.frames.Frames.feed.Goals as goal
