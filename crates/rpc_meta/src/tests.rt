@@ -185,6 +185,13 @@ fn codes(rt: HostRuntime) {
     }
     assert_eq!(&rt; reply_code(&reply(None, None, None)), 0);
     assert_eq!(&rt; reply_code(&numbers(None, None)), 0);
+    // The code -1 as it comes from the wire.
+    let bytes = b"\x12\x0b\x08\xff\xff\xff\xff\xff\xff\xff\xff\xff\x01";
+    let told = match read(&rt, rt.alloc(), bytes) {
+        Ok(meta) => reply_code(&meta),
+        Err(_) => 0,
+    };
+    assert_eq!(&rt; told, 2002);
 }
 
 /// What may be written, and in how many bytes.
