@@ -29,7 +29,7 @@ finish_least-call : (again : ℕ → Begun → ℕ × Begun) (reached : ℕ) (b 
 finish_least-call again reached b None keeps = refl
 finish_least-call again reached b (Some (mark, others)) keeps = keeps (max reached mark.moment) (take_mark b mark others)
 
-finish-call : (count reached : ℕ) (b : Begun) → (finish_at_most count reached b).1.call ≡ b.call
+pub finish-call : (count reached : ℕ) (b : Begun) → (finish_at_most count reached b).1.call ≡ b.call
 finish-call zero reached b = refl
 finish-call (suc count) reached b =
     elim (is_some (end_of b.state)) as (λ v. (cond v (reached, b) (finish_least (finish_at_most count) reached b (least_mark b.waiting))).1.call ≡ b.call) [
@@ -37,7 +37,7 @@ finish-call (suc count) reached b =
       | false ↦ finish_least-call (finish_at_most count) reached b (least_mark b.waiting) (λ r d. finish-call count r d)
     ]
 
-event-number : (e : Event) (moment : ℕ) (s : Standing) → number_of (event_after e moment s) ≡ number_of s
+pub event-number : (e : Event) (moment : ℕ) (s : Standing) → number_of (event_after e moment s) ≡ number_of s
 event-number e moment (begun b) = weave-call (most_marks b.plan) moment b
 event-number e moment (full call) = refl
 event-number e moment (told_of call) = refl

@@ -1,0 +1,60 @@
+-- A join line of a replay.
+use Rattle.std.proofs.Common.{◌≡◌, ◌≢◌, ℕ, ◌+◌, ◌≤◌, nat_eq, List, [], ◌∷◌, ◌++◌, length, find, Option, None, Some, ap, sym, refl, ◌∙◌}
+use Rattle.std.specs.Map.{lookup}
+use Rattle.rpc_model.specs.declared.script.Script.{Script}
+use Rattle.rpc_model.specs.declared.told.Told.{Told}
+use Rattle.rpc_model.specs.declared.told.Told.TheVariants.{Gone}
+use Rattle.rpc_model.specs.Marks.{Begun}
+use Rattle.rpc_model.specs.Told as spec
+use Rattle.id_pool.specs.Ids.{version_of}
+use Rattle.id_pool.specs.Ranges.{Slot, changed, look}
+use Rattle.sim_run.specs.declared.ticket.Ticket.{Ticket}
+use Rattle.sim_run.specs.declared.state.Replay.{Replay}
+use Rattle.sim_run.specs.Slots.{join, join_says}
+use Rattle.sim_run.specs.Desk.{standings, IsReady, replay_of}
+use Rattle.sim_run.proofs.Steps.{Follows}
+use Rattle.sim_run.proofs.JoinSteps.{JoinFollows, moment_or, tells_or, join-moved, join-full, join-absent, join-idle}
+
+-- A join leaves the plain machine's replay after it.
+pub join-replay : (old new : Replay) (call : ℕ) → Follows old.pool new.pool old.calls.entries call (spec.joined old.reached) → new.calls ≡ old.calls
+    → new.reached ≡ spec.joined_moment old.reached (find (spec.is_call call) (standings old.pool old.calls.entries)) → replay_of new ≡ spec.call_join (replay_of old) call
+join-replay old new call follows calls reached =
+    rw (calls, reached) (ap (λ (ss : List spec.Standing). record { reached = spec.joined_moment old.reached (find (spec.is_call call) (standings old.pool old.calls.entries)); calls = ss }) follows.stands)
+
+idle : (script : Script) (old : Replay) (call : ℕ) → IsReady script old → ((ticket : Ticket) → lookup (nat_eq call) old.calls.entries ≢ Some (Some ticket)) → Follows old.pool old.pool old.calls.entries call (spec.joined old.reached)
+idle script old call ready none = record {
+  stands = join-idle old.reached old.pool old.calls.entries call ready.sound.known none;
+  sound = ready.sound;
+  past = λ id h. h;
+  size = refl;
+}
+
+-- what a join line leaves and tells where its call has no ticket
+pub record JoinsNone (old : Replay) (call : ℕ) (tells : List Told) : Type 0 where
+  pub follows : Follows old.pool old.pool old.calls.entries call (spec.joined old.reached)
+  pub moment : old.reached ≡ spec.joined_moment old.reached (find (spec.is_call call) (standings old.pool old.calls.entries))
+  pub tells_it : spec.join_tells old.reached (find (spec.is_call call) (standings old.pool old.calls.entries)) ≡ tells
+
+-- No line begins the call.
+pub joins-absent : (script : Script) (old : Replay) (call : ℕ) → IsReady script old → None ≡ lookup (nat_eq call) old.calls.entries → JoinsNone old call []
+joins-absent script old call ready none =
+    let found = join-absent old.reached old.pool old.calls.entries call ready.sound.known (sym none) in
+    record {
+      follows = idle script old call ready (λ ticket e. let both = none ∙ e in absurd (cc));
+      moment = sym (ap (spec.joined_moment old.reached) found);
+      tells_it = ap (spec.join_tells old.reached) found;
+    }
+
+-- The call found no slot.
+pub joins-full : (script : Script) (old : Replay) (call : ℕ) → IsReady script old → Some None ≡ lookup (nat_eq call) old.calls.entries → JoinsNone old call (Gone call ∷ [])
+joins-full script old call ready full =
+    let found = join-full old.reached old.pool old.calls.entries call ready.sound.known (sym full) in
+    record {
+      follows = idle script old call ready (λ ticket e. let both = full ∙ e in absurd (cc));
+      moment = sym (ap (spec.joined_moment old.reached) found);
+      tells_it = ap (spec.join_tells old.reached) found;
+    }
+
+-- The call has a ticket.
+pub joins-ticket : (script : Script) (old : Replay) (call : ℕ) (ticket : Ticket) → IsReady script old → length old.calls.entries ≤ 500000 → Some (Some ticket) ≡ lookup (nat_eq call) old.calls.entries → JoinFollows old.reached old.pool old.calls.entries call ticket.first
+joins-ticket script old call ticket ready few found = join-moved old.reached old.pool old.calls.entries call ticket ready.sound few (sym found)

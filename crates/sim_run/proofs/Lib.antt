@@ -1,0 +1,12 @@
+pub mod Changes
+pub mod Joins
+pub mod Apart
+pub mod Entries
+pub mod Steps
+pub mod JoinSteps
+pub mod Begins
+pub mod Streams
+pub mod Ready
+pub mod Replies
+pub mod JoinReady
+pub mod NewCalls

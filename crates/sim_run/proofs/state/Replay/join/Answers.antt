@@ -1,0 +1,63 @@
+-- A join tells what it finds.
+use Rattle.std.proofs.Common.{◌≡◌, ◌∷◌, ◌++◌, [], List, Some, None, sym, refl, ap, ◌∙◌}
+use Rattle.std.proofs.lemmas.List.{append-nil}
+use Rattle.rpc_model.specs.declared.told.Told.{Told}
+use Rattle.rpc_model.specs.Told as spec
+use Rattle.sim_run.proofs.Steps.{Follows}
+use Rattle.sim_run.proofs.Ready.{ready-follows}
+use Rattle.sim_run.proofs.JoinSteps.{JoinFollows, moment_or, tells_or, join-first}
+use Rattle.sim_run.proofs.JoinReady.{join-replay, joins-absent, joins-full, joins-ticket}
+use Rattle.sim_run.proofs.state.Replay.join.Goals as goal
+
+pub returns-in_default-clause-after : goal.returns-in_default-clause-after
+returns-in_default-clause-after c =
+    let j = joins-absent c.args.script.now c.args.self.now c.args.call c.requires.ready c.in_default.ensures.value in
+    join-replay c.args.self.now (record { reached = c.args.self.now.reached; calls = c.args.self.now.calls; pool = c.args.self.now.pool; wires = c.args.self.now.wires }) c.args.call j.follows refl j.moment
+
+pub returns-in_default-clause-tells : goal.returns-in_default-clause-tells
+returns-in_default-clause-tells c =
+    let j = joins-absent c.args.script.now c.args.self.now c.args.call c.requires.ready c.in_default.ensures.value in
+    rw j.tells_it (sym (append-nil c.args.told.now.items))
+
+pub returns-in_default-known-clause-after : goal.returns-in_default-known-clause-after
+returns-in_default-known-clause-after c =
+    let j = joins-full c.args.script.now c.args.self.now c.args.call c.requires.ready (rw c.in_default-known.is at c.in-Some.ensures.value) in
+    join-replay c.args.self.now (record { reached = c.args.self.now.reached; calls = c.args.self.now.calls; pool = c.args.self.now.pool; wires = c.args.self.now.wires }) c.args.call j.follows refl j.moment
+
+pub returns-in_default-known-clause-tells : goal.returns-in_default-known-clause-tells
+returns-in_default-known-clause-tells c =
+    let j = joins-full c.args.script.now c.args.self.now c.args.call c.requires.ready (rw c.in_default-known.is at c.in-Some.ensures.value) in
+    rw j.tells_it c.in_ok-push.ensures.items
+
+pub join-requires : goal.join-requires
+join-requires c = join-first c.args.self.now.pool c.args.self.now.calls.entries c.args.call c.in-Some-known.ticket c.requires.ready.sound c.requires.few (sym (rw c.in-Some-known.is at c.in-Some.ensures.value))
+
+pub returns-in_default-join-clause-ready : goal.returns-in_default-join-clause-ready
+returns-in_default-join-clause-ready c =
+    let j = joins-ticket c.args.script.now c.args.self.now c.args.call c.in-Some-known.ticket c.requires.ready c.requires.few (rw c.in-Some-known.is at c.in-Some.ensures.value) in
+    ready-follows c.args.script.now c.args.self.now (record { reached = c.args.self.now.reached; calls = c.args.self.now.calls; pool = c.join.new.pool; wires = c.args.self.now.wires }) c.args.call (spec.joined c.args.self.now.reached) c.requires.ready (rw (← c.join.ensures.after) at j.follows) refl c.requires.ready.servers c.requires.ready.waiting
+
+pub returns-in_default-join-clause-after : goal.returns-in_default-join-clause-after
+returns-in_default-join-clause-after c =
+    let j = joins-ticket c.args.script.now c.args.self.now c.args.call c.in-Some-known.ticket c.requires.ready c.requires.few (rw c.in-Some-known.is at c.in-Some.ensures.value) in
+    join-replay c.args.self.now (record { reached = c.args.self.now.reached; calls = c.args.self.now.calls; pool = c.join.new.pool; wires = c.args.self.now.wires }) c.args.call (rw (← c.join.ensures.after) at j.follows) refl (ap (moment_or c.args.self.now.reached) c.in_default-join.ensures.says ∙ sym j.moment)
+
+pub returns-in_default-join-clause-tells : goal.returns-in_default-join-clause-tells
+returns-in_default-join-clause-tells c =
+    let j = joins-ticket c.args.script.now c.args.self.now c.args.call c.in-Some-known.ticket c.requires.ready c.requires.few (rw c.in-Some-known.is at c.in-Some.ensures.value) in
+    rw (j.tells ∙ ap (λ x. tells_or c.args.call x ∷ []) (sym c.in_default-join.ensures.says)) c.in_ok-push-2.ensures.items
+
+pub returns-clause-ready : goal.returns-clause-ready
+returns-clause-ready c =
+    let j = joins-ticket c.args.script.now c.args.self.now c.args.call c.in-Some-known.ticket c.requires.ready c.requires.few (rw c.in-Some-known.is at c.in-Some.ensures.value) in
+    ready-follows c.args.script.now c.args.self.now (record { reached = c.in-Some-join.reached; calls = c.args.self.now.calls; pool = c.join.new.pool; wires = c.args.self.now.wires }) c.args.call (spec.joined c.args.self.now.reached) c.requires.ready (rw (← c.join.ensures.after) at j.follows) refl c.requires.ready.servers c.requires.ready.waiting
+
+pub returns-clause-after : goal.returns-clause-after
+returns-clause-after c =
+    let j = joins-ticket c.args.script.now c.args.self.now c.args.call c.in-Some-known.ticket c.requires.ready c.requires.few (rw c.in-Some-known.is at c.in-Some.ensures.value) in
+    join-replay c.args.self.now (record { reached = c.in-Some-join.reached; calls = c.args.self.now.calls; pool = c.join.new.pool; wires = c.args.self.now.wires }) c.args.call (rw (← c.join.ensures.after) at j.follows) refl (ap (moment_or c.args.self.now.reached) c.in-Some-join.ensures.says ∙ sym j.moment)
+
+pub returns-clause-tells : goal.returns-clause-tells
+returns-clause-tells c =
+    let j = joins-ticket c.args.script.now c.args.self.now c.args.call c.in-Some-known.ticket c.requires.ready c.requires.few (rw c.in-Some-known.is at c.in-Some.ensures.value) in
+    rw (j.tells ∙ ap (λ x. tells_or c.args.call x ∷ []) (sym c.in-Some-join.ensures.says)) c.in_ok-push-3.ensures.items

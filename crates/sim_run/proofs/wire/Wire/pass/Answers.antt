@@ -1,0 +1,31 @@
+-- The frame that was written is the one that comes in.
+use Rattle.std.proofs.Common.{◌≡◌, ◌∷◌, ◌++◌, [], length, ap, sym, ◌∙◌, arith, ◌<◌, ◌^◌, ◌≢◌, List}
+use Rattle.prpc_frames.specs.Stream.Reading.{later, before}
+use Rattle.prpc_frames.specs.Stream.Spelling.{frame_bytes, all_bytes}
+use Rattle.sim_run.proofs.Streams.{holding, feed-idle, feed-taken, handed-out}
+use Rattle.sim_run.proofs.wire.Wire.pass.Goals as goal
+
+pub invariant_of-self : goal.invariant_of-self
+invariant_of-self c =
+    let piece : c.deref.result.now ≡ frame_bytes c.args.frame.now = c.deref.ensures.value ∙ c.in_ok-write_frame.ensures.written ∙ ap (λ (xs : List _). xs ++ frame_bytes c.args.frame.now) c.new-bytes.ensures.items in
+    feed-idle c.begins_with_spelled.ensures c.self.inside.frames c.feed.new.self c.args.frame.now c.deref.result.now c.feed.result c.self.invariant c.requires.fitting c.requires.typed piece c.in_default.not-Ok c.feed.ensures.taken
+
+pub unreachable-requires : goal.unreachable-requires
+unreachable-requires c =
+    let piece : c.deref.result.now ≡ frame_bytes c.args.frame.now = c.deref.ensures.value ∙ c.in_ok-write_frame.ensures.written ∙ ap (λ (xs : List _). xs ++ frame_bytes c.args.frame.now) c.new-bytes.ensures.items in
+    let t = feed-taken c.begins_with_spelled.ensures c.self.inside.frames c.feed.new.self c.args.frame.now c.deref.result.now c.in-Ok.field-0 c.self.invariant c.requires.fitting c.requires.typed piece c.in-Ok.ensures.taken in
+    let none = c.in_default-next.ensures.0 in
+    let some = ap (λ s. s.frames) t in
+    cc
+
+pub invariant_of-self-2 : goal.invariant_of-self-2
+invariant_of-self-2 c =
+    let piece : c.deref.result.now ≡ frame_bytes c.args.frame.now = c.deref.ensures.value ∙ c.in_ok-write_frame.ensures.written ∙ ap (λ (xs : List _). xs ++ frame_bytes c.args.frame.now) c.new-bytes.ensures.items in
+    let t = feed-taken c.begins_with_spelled.ensures c.self.inside.frames c.feed.new.self c.args.frame.now c.deref.result.now c.in-Ok.field-0 c.self.invariant c.requires.fitting c.requires.typed piece c.in-Ok.ensures.taken in
+    (handed-out _ c.args.frame.now c.in-Some.frame c.feed.new.self c.next.new.self (omega arith) t c.in-Some.ensures).1
+
+pub returns-clause-frame : goal.returns-clause-frame
+returns-clause-frame c =
+    let piece : c.deref.result.now ≡ frame_bytes c.args.frame.now = c.deref.ensures.value ∙ c.in_ok-write_frame.ensures.written ∙ ap (λ (xs : List _). xs ++ frame_bytes c.args.frame.now) c.new-bytes.ensures.items in
+    let t = feed-taken c.begins_with_spelled.ensures c.self.inside.frames c.feed.new.self c.args.frame.now c.deref.result.now c.in-Ok.field-0 c.self.invariant c.requires.fitting c.requires.typed piece c.in-Ok.ensures.taken in
+    (handed-out _ c.args.frame.now c.in-Some.frame c.feed.new.self c.next.new.self (omega arith) t c.in-Some.ensures).0

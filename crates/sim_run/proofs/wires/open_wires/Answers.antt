@@ -1,0 +1,11 @@
+-- One more wire.
+use Rattle.std.proofs.Common.{ap, [], ◌∷◌, length, length-append, arith, ◌∙◌}
+use Rattle.sim_run.specs.Desk.{IsWire}
+use Rattle.sim_run.proofs.Begins.{All-snoc}
+use Rattle.sim_run.proofs.wires.open_wires.Goals as goal
+
+pub loop-server-preserved : goal.loop-server-preserved
+loop-server-preserved c = record {
+  count = rw c.in_ok-push.ensures.items (omega (arith, length-append c.loop-server.wires.items (c.in_ok-open.field-0 ∷ []), c.loop-server.invariant.count));
+  idle = λ slots. rw c.in_ok-push.ensures.items (All-snoc (IsWire slots) c.loop-server.wires.items c.in_ok-open.field-0 (c.loop-server.invariant.idle slots) (rw c.in_ok-open.ensures tt));
+}

@@ -1,0 +1,5 @@
+pub mod Calls
+pub mod Slots
+pub mod Desk
+pub mod Wires
+pub mod Link

@@ -1,0 +1,13 @@
+//! The replay of a script: what its joins tell. Calls stand in a pool of ids, each in a slot from its line to the join
+//! that tells its end; requests go out on wires, and replies come back as frames that find their calls by id alone.
+#![tactic(auto)]
+
+mod open_call;
+mod replaying;
+mod slots;
+mod state;
+mod ticket;
+mod wire;
+mod wires;
+
+pub use replaying::replay;

@@ -1,0 +1,135 @@
+ghost use Rattle.std.specs.Prelude.{◌≡◌, ◌^◌, ◌<◌, ◌≤◌, [], ◌∷◌, ◌++◌, false, length, IfOk, IfSome, OnOk, OnErr};
+ghost use Rattle.link_core.specs.Outstanding.{is_outstanding, without};
+ghost use Rattle.sim_run.specs.Link.{reply_frame, reply_in};
+ghost use Rattle.prpc_frames.specs.Stream.Spelling.{IsFitting, IsTyped};
+
+use link_core::{Outlog, Outstanding};
+use prpc_frames::{Frame, Frames, begins_with_spelled, write_frame};
+use rpc_base::{Bytes, NoMemory};
+use rpc_meta::{Meta, ResponseMeta, reply_code};
+use std::alloc::Global;
+use std::marker::Model;
+
+/// What a reply says: the id of its attempt, a code, 0 for success, and a text.
+#[derive(Drop)]
+pub(crate) struct Reply {
+    pub(crate) id: u64,
+    pub(crate) code: u32,
+    pub(crate) text: Bytes,
+}
+
+/// The client's end of the connection to a server: requests go out on it, and replies come in as frames.
+#[derive(Drop)]
+pub(crate) struct Wire {
+    alloc: Global,
+    out: Outlog,
+    outstanding: Outstanding,
+    frames: Frames,
+}
+
+impl Model for Wire {
+    ghost use Rattle.sim_run.specs.Link.{Link, IsIdle};
+
+    ghost Value = { Link };
+
+    ghost view = { λ w. record { out = w.out; waiting = w.outstanding } };
+
+    ghost invariant = { λ w. IsIdle w.frames };
+}
+
+impl Wire {
+    pub(crate) fn open(alloc: Global) -> Result<Wire, NoMemory>
+        ensures { IfOk result (λ w. w ≡ record { out = []; waiting = [] }) }
+    {
+        Ok(Wire {
+            alloc,
+            out: Outlog::open(alloc),
+            outstanding: Outstanding::open(alloc)?,
+            frames: Frames::open(alloc),
+        })
+    }
+
+    /// Sends a request under the id of its attempt, which waits for a reply from then on.
+    pub(crate) fn send(&mut self, id: u64, call: u32, payload: Bytes) -> Result<(), NoMemory>
+        requires { is_outstanding id self.old.waiting ≡ false }
+        ensures { OnOk result (self.new ≡ record { out = self.old.out ++ record { id = id; payload = payload } ∷ []; waiting = self.old.waiting ++ (id, call) ∷ [] }) }
+    {
+        self.out.send(id, payload)?;
+        self.outstanding.add(id, call)?;
+        Ok(())
+    }
+
+    /// A reply comes in as a frame, and is what the frame says. Its id doesn't wait any more.
+    pub(crate) fn receive(&mut self, id: u64, code: u32, text: &Bytes) -> Result<Reply, NoMemory>
+        requires id { id < 2 ^ 63 }
+        requires code { code ≤ 65535 }
+        requires text { length text.now ≤ 60000 }
+        ensures reply { IfOk result (λ r. r ≡ record { id = id; code = code; text = text.now }) }
+        ensures wire { OnOk result (self.new ≡ record self.old { waiting = without id self.old.waiting }) }
+    {
+        let text = Bytes::of(Vec::from_slice(self.alloc, text.list())?);
+        let sent = frame_of(self.alloc, Reply { id, code, text });
+        let Some(reply) = reply_of(self.pass(&sent)?) else {
+            unreachable!()
+        };
+        self.outstanding.remove(reply.id);
+        Ok(reply)
+    }
+
+    /// The frame that comes in where this one is written.
+    fn pass(&mut self, frame: &Frame) -> Result<Frame, NoMemory>
+        requires fitting { IsFitting frame.now }
+        requires typed { IsTyped frame.now.meta }
+        ensures frame { IfOk result (λ f. f ≡ frame.now) }
+        ensures wire { self.new ≡ self.old }
+    {
+        begins_with_spelled();
+        let mut bytes = Vec::new(self.alloc);
+        write_frame(frame, &mut bytes)?;
+        // The bytes of a frame that fits have no fault, so that only memory can be wanting.
+        let Ok(()) = self.frames.feed(&bytes) else {
+            return Err(NoMemory);
+        };
+        let Some(frame) = self.frames.next() else {
+            unreachable!()
+        };
+        Ok(frame)
+    }
+}
+
+/// The frame of a reply.
+fn frame_of(alloc: Global, reply: Reply) -> Frame
+    requires id { reply.id < 2 ^ 63 }
+    requires code { reply.code ≤ 65535 }
+    ensures { result ≡ reply_frame reply }
+{
+    Frame {
+        meta: Meta {
+            request: None,
+            response: Some(ResponseMeta {
+                code: Some(reply.code as i32),
+                text: None,
+            }),
+            compress: None,
+            correlation: Some(reply.id as i64),
+            attachment: None,
+        },
+        payload: reply.text,
+        attachment: Bytes::of(Vec::new(alloc)),
+    }
+}
+
+/// The reply that a frame says. None where it has no correlation id, or a negative one.
+fn reply_of(frame: Frame) -> Option<Reply>
+    ensures { result ≡ reply_in frame }
+{
+    let correlation = frame.meta.correlation?;
+    if correlation < 0 {
+        return None;
+    }
+    Some(Reply {
+        id: correlation as u64,
+        code: reply_code(&frame.meta),
+        text: frame.payload,
+    })
+}
