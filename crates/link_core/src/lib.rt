@@ -4,6 +4,7 @@
 //! order of adding.
 #![tactic(auto)]
 
+mod entries;
 mod outlog;
 mod outstanding;
 
