@@ -3,11 +3,11 @@ use Rattle.std.proofs.Common.{◌≡◌, ℕ, zero, suc, ◌+◌, ◌≤◌, Boo
 use Rattle.std.specs.List.{AllByRecursion, IsDistinct}
 use Rattle.std.specs.Cmp.{nat_eq_equiv}
 use Rattle.std.specs.Option.{option_map}
-use Rattle.std.specs.Map.{keys_of, lookup, remove_entry}
+use Rattle.std.specs.Map.{keys_of, lookup}
 use Rattle.std.proofs.lemmas.Bool.{eqb-true, eq-eqb}
 use Rattle.std.proofs.lemmas.Map.{lookup-remove_entry}
 use Rattle.indexmap.specs.IndexMap.{insert_entry}
-use Rattle.link_core.specs.Kept.{waits, with_entry, waiting, AreGone, AreKept}
+use Rattle.link_core.specs.Kept.{waits, with_entry, waiting, AreGone}
 use Rattle.link_core.specs.Outstanding.{call_of, is_outstanding, without, first, IsEachOnce}
 
 -- ---- looking an id up
