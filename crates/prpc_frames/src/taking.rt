@@ -1,4 +1,4 @@
-ghost use Rattle.std.specs.Prelude.{◌≡◌, ◌++◌, ◌≤◌, length, drop, IfOk, IfSome, OnErr};
+ghost use Rattle.std.specs.Prelude.{◌≡◌, ◌++◌, ◌≤◌, length, drop, IfOk, IfSome, OnOk, OnErr};
 ghost use Rattle.std.specs.Vec.{vec_len};
 ghost use Rattle.prpc_frames.specs.Stream.Reading.{frames as frames_of, joined};
 ghost use Rattle.prpc_frames.specs.Seen.{answer_of, stream_seen, IsFinal};
@@ -70,6 +70,19 @@ fn read_frames(alloc: Global, at: u64, bytes: &[u8]) -> Result<(VecDeque<Frame>,
     }
 }
 
+/// Puts frames behind those that wait. Where none waits, the room of the frames before is given back.
+fn put_behind(waiting: &mut VecDeque<Frame>, mut frames: VecDeque<Frame>) -> Result<(), NoMemory>
+    ensures put { OnOk result (waiting.new.items ≡ waiting.old.items ++ frames.items) }
+    ensures kept { OnErr result (waiting.new.items ≡ waiting.old.items) }
+{
+    if waiting.is_empty() {
+        *waiting = frames;
+        return Ok(());
+    }
+    waiting.append(&mut frames)?;
+    Ok(())
+}
+
 /// Puts the whole frames at the front of the bytes behind those that wait.
 fn move_frames(
     alloc: Global,
@@ -82,17 +95,23 @@ fn move_frames(
     ensures lasting { IfOk result (λ r. IfSome r.fault IsFinal) }
     ensures kept { OnErr result (waiting.new.items ≡ waiting.old.items) }
 {
-    let (mut frames, reached) = read_frames(alloc, at, bytes)?;
-    waiting.append(&mut frames)?;
+    let (frames, reached) = read_frames(alloc, at, bytes)?;
+    put_behind(waiting, frames)?;
     Ok(reached)
 }
 
-/// Takes out the first bytes.
+/// So many bytes of room are kept, however few bytes there are.
+const KEPT: usize = 65_536;
+
+/// Takes out the first bytes, and gives memory back where the room is more than four times what is left.
 fn drop_front(bytes: &mut Vec<u8>, count: usize)
     requires { count ≤ vec_len bytes.old }
     ensures { bytes.new.items ≡ drop count bytes.old.items }
 {
     drop(bytes.drain(..count));
+    if bytes.capacity() > KEPT && bytes.len() < bytes.capacity() / 4 {
+        bytes.shrink_to(KEPT);
+    }
 }
 
 /// Appends the piece to the rest of the stream, which begins at the place `at`, and moves the whole frames out of it.

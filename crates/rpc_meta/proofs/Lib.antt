@@ -1,3 +1,4 @@
+pub mod Begun
 pub mod FiveFaults
 pub mod Modulo
 pub mod Names

@@ -55,7 +55,7 @@ fn present_number_len(field: u32, number: Option<i64>) -> u64
     }
 }
 
-fn present_int32_len(field: u32, number: Option<i32>) -> u64
+pub(crate) fn present_int32_len(field: u32, number: Option<i32>) -> u64
     ensures len { result ≡ length (if_present (number_bytes field) number) }
     ensures small { result ≤ 20 }
 {
@@ -74,7 +74,7 @@ fn text_len(field: u32, len: u64) -> u64
 
 /// How many bytes the fields of a request have, or 2^64 - 1 where they are more.
 #[tactic(auto, using(crate::proofs::Sizes::sizes))]
-fn request_len(request: &RequestMeta) -> u64
+pub(crate) fn request_len(request: &RequestMeta) -> u64
     ensures { result ≡ min (length (request_bytes request.now)) (2 ^ 64 - 1) }
 {
     text_len(1, request.service.list().len() as u64)
@@ -94,7 +94,7 @@ fn present_text_len(field: u32, text: &Option<Bytes>) -> u64
 
 /// How many bytes the fields of a response have, or 2^64 - 1 where they are more.
 #[tactic(auto, using(crate::proofs::Sizes::sizes))]
-fn response_len(response: &ResponseMeta) -> u64
+pub(crate) fn response_len(response: &ResponseMeta) -> u64
     ensures { result ≡ min (length (response_bytes response.now)) (2 ^ 64 - 1) }
 {
     present_int32_len(1, response.code).saturating_add(present_text_len(2, &response.text))
