@@ -1,5 +1,6 @@
 -- The bounds that hold of every accepted script. They follow from the limits of its lines.
-use Rattle.std.specs.Prelude.{◌≡◌, ℕ, ◌^◌, ◌<◌, ◌≤◌, All, length, Option, None, Some}
+use Rattle.std.specs.Prelude.{◌≡◌, ℕ, ◌^◌, ◌<◌, ◌≤◌, nat_eq, List, [], ◌∷◌, All, length, Option, None, Some}
+use Rattle.std.specs.List.{IsDistinct}
 use Rattle.rpc_model.specs.declared.chan.Chan.{Chan}
 use Rattle.rpc_model.specs.declared.chan.Chan.TheVariants as chan
 use Rattle.rpc_model.specs.declared.chan.LeafChan.{LeafChan}
@@ -18,20 +19,48 @@ moment_of (Join call) = 0
 abbrev pub IsMoment : Act → Type 0
 IsMoment act = moment_of act < 2 ^ 53
 
+-- a call is on one of so many channels, a text has at most 60,000 bytes, and a reply's code is at most 65,535
+abbrev pub IsAct : ℕ → Act → Type 0
+IsAct chans (Call at call chan text) = (chan < chans) × (length text ≤ 60000)
+IsAct chans (Cancel at call) = Unit {0}
+IsAct chans (Reply at call node attempt code text) = (code ≤ 65535) × (length text ≤ 60000)
+IsAct chans (Tick at) = Unit {0}
+IsAct chans (Join call) = Unit {0}
+
+-- the number of a line's call, where the line begins one, in front of numbers
+abbrev pub begins : Act → List ℕ → List ℕ
+begins (Call at call chan text) calls = call ∷ calls
+begins (Cancel at call) calls = calls
+begins (Reply at call node attempt code text) calls = calls
+begins (Tick at) calls = calls
+begins (Join call) calls = calls
+
+-- the numbers of the calls that the lines begin, in their order
+abbrev pub called : List Act → List ℕ
+called [] = []
+called (act ∷ acts) = begins act (called acts)
+
 abbrev pub IsWait : Option ℕ → Type 0
 IsWait None = Unit {0}
 IsWait (Some wait) = wait < 2 ^ 31
 
--- a leaf without retry and backup request
-pub record IsPlainLeaf (leaf : LeafChan) : Type 0 where
+-- a leaf over some of so many servers, without retry and backup request
+pub record IsPlainLeaf (servers : ℕ) (leaf : LeafChan) : Type 0 where
   pub once : leaf.retry ≡ 0
   pub alone : leaf.backup ≡ None
   pub timeout : IsWait leaf.timeout
+  pub some_server : 1 ≤ length leaf.servers
+  pub known_servers : All (λ server. server < servers) leaf.servers
 
-abbrev pub IsPlain : Chan → Type 0
-IsPlain (chan.Leaf leaf) = IsPlainLeaf leaf
+abbrev pub IsPlain : ℕ → Chan → Type 0
+IsPlain servers (chan.Leaf leaf) = IsPlainLeaf servers leaf
 
 pub record Fits (script : Script) : Type 0 where
   pub moments : All IsMoment script.acts
-  pub channels : All IsPlain script.chans
+  pub acts : All (IsAct (length script.chans)) script.acts
+  pub calls_differ : IsDistinct nat_eq (called script.acts)
+  pub channels : All (IsPlain script.servers) script.chans
   pub lines : length script.acts ≤ 500000
+  pub some_slot : 1 ≤ script.slots
+  pub few_slots : script.slots ≤ 4096
+  pub few_servers : script.servers ≤ 16

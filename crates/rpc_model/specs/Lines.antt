@@ -11,11 +11,12 @@ use Rattle.rpc_model.specs.declared.script.Act.TheVariants.{Call, Cancel, Reply,
 use Rattle.rpc_model.specs.Plan.{Plan, leaf_plan, plan, possible_attempts}
 use Rattle.rpc_model.specs.Words.{◌>>=◌, guard, all_within, number, is_name, text, number_option, wait_option, attempt_word}
 
--- all lines before a line: the names of the channels and of the servers in the order of their first mention, the
--- channels, each call with its channel, what happens, how many of these lines are events or joins, and the sum over
--- the calls that has a limit
+-- all lines before a line: how many calls may be open where a line says so, the names of the channels and of the
+-- servers in the order of their first mention, the channels, each call with its channel, what happens, how many of these
+-- lines are events or joins, and the sum over the calls that has a limit
 pub record Before : Type 0 where
   pub mode : Mode
+  pub slots : Option ℕ
   pub names : List (List ℕ)
   pub servers : List (List ℕ)
   pub chans : List Chan
@@ -25,7 +26,7 @@ pub record Before : Type 0 where
   pub weight : ℕ
 
 abbrev pub nothing : Mode → Before
-nothing mode = record { mode = mode; names = []; servers = []; chans = []; calls = []; acts = []; events = 0; weight = 0 }
+nothing mode = record { mode = mode; slots = None; names = []; servers = []; chans = []; calls = []; acts = []; events = 0; weight = 0 }
 
 abbrev pub call_limit : Mode → ℕ
 call_limit Sim = 100000
@@ -54,6 +55,13 @@ mention servers name = mention_at servers name (index_of servers name)
 
 abbrev pub server_number : List (List ℕ) → List ℕ → ℕ
 server_number servers name = unwrap_or (index_of servers name) (length servers)
+
+-- `open N`: before every call line, and once
+unfoldable pub open_line : Before → List ℕ → Option Before
+open_line before slots = do
+  n ← number 1 4096 slots
+  _ ← guard (is_none before.slots && length before.calls == 0)
+  Some (record before { slots = Some n })
 
 -- one more event or join
 abbrev pub with_event : Before → Act → Option Before
@@ -162,7 +170,10 @@ join_line before call = do
 
 -- a line of two words, and so on
 abbrev pub two_words : Before → List ℕ → List ℕ → Option Before
-two_words before kind call = if bytes_eq kind (codes "join") then join_line before call else None
+two_words before kind word =
+    if bytes_eq kind (codes "open") then open_line before word
+    else if bytes_eq kind (codes "join") then join_line before word
+    else None
 
 abbrev pub three_words : Before → List ℕ → List ℕ → List ℕ → Option Before
 three_words before kind at what = if bytes_eq kind (codes "at") && bytes_eq what (codes "tick") then tick_line before at else None
@@ -181,7 +192,7 @@ seven_words before kind at what call attempt code words =
     if bytes_eq kind (codes "at") && bytes_eq what (codes "reply") then reply_line before at call attempt code words else None
 
 unfoldable pub words_say : Before → List (List ℕ) → Option Before
-words_say before (kind ∷ call ∷ []) = two_words before kind call
+words_say before (kind ∷ word ∷ []) = two_words before kind word
 words_say before (kind ∷ at ∷ what ∷ []) = three_words before kind at what
 words_say before (kind ∷ at ∷ what ∷ call ∷ []) = four_words before kind at what call
 words_say before (kind ∷ a ∷ b ∷ c ∷ d ∷ e ∷ []) = six_words before kind a b c d e

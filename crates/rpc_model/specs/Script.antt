@@ -1,5 +1,5 @@
 -- A script as typed lines, or its first bad line and the cause. This project's own choice.
-use Rattle.std.specs.Prelude.{ℕ, ◌+◌, ◌==◌, nat_lt, List, [], ◌∷◌, length, Option, None, Some, Result, Ok, Err, if◌then◌else◌}
+use Rattle.std.specs.Prelude.{ℕ, ◌+◌, ◌==◌, nat_lt, List, [], ◌∷◌, length, unwrap_or, Option, None, Some, Result, Ok, Err, if◌then◌else◌}
 use Rattle.std.specs.List.{slice_split}
 use Rattle.rpc_model.specs.declared.script.Mode.{Mode}
 use Rattle.rpc_model.specs.declared.script.Script.{Script}
@@ -20,9 +20,9 @@ abbrev pub lines_say : ℕ → Before → List (List ℕ) → Result Before (ℕ
 lines_say number before [] = Ok before
 lines_say number before (line ∷ lines) = line_judged number before line (λ after. lines_say (number + 1) after lines) (line_says before line)
 
--- the typed lines
+-- the typed lines; 1,024 calls may be open where no line says how many
 abbrev pub script_of : Before → Script
-script_of before = record { mode = before.mode; slots = 1024; servers = length before.servers; chans = before.chans; acts = before.acts }
+script_of before = record { mode = before.mode; slots = unwrap_or before.slots 1024; servers = length before.servers; chans = before.chans; acts = before.acts }
 
 abbrev pub scripted : Result Before (ℕ × Cause) → Result Script (ℕ × Cause)
 scripted (Ok before) = Ok (script_of before)

@@ -10,6 +10,7 @@ mod codes;
 mod event;
 mod laws;
 mod script;
+mod sent;
 mod told;
 
 pub use chan::{Chan, LeafChan};
@@ -24,6 +25,7 @@ pub use laws::{
     success_needs_a_live_reply, told_once,
 };
 pub use script::{Act, Cause, Mode, Script};
+pub use sent::Sent;
 pub use told::Told;
 
 #[cfg(test)]
