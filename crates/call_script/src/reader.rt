@@ -5,9 +5,10 @@ ghost use Rattle.std.specs.Option.{option_map};
 ghost use Rattle.std.specs.List.{slice_split};
 ghost use Rattle.rpc_model.specs.Lines as lines;
 ghost use Rattle.rpc_model.specs.Plan.{plan};
-ghost use Rattle.rpc_model.specs.Fits.{Fits, IsMoment, IsPlainLeaf, IsWait};
+ghost use Rattle.rpc_model.specs.Fits.{Fits, IsAct, IsMoment, IsPlainLeaf, IsWait, begins};
 ghost use Rattle.rpc_model.specs.Script.{script_of};
 ghost use Rattle.rpc_model.specs.declared.chan.Chan.TheVariants as chan;
+ghost use Rattle.rpc_model.specs.declared.script.Act.TheVariants as act;
 ghost use Rattle.call_script.specs.Judged.{Judged};
 
 use crate::fault::LineFault;
@@ -28,6 +29,7 @@ const SLOTS: u32 = 1_024;
 pub(crate) struct Reader {
     alloc: Global,
     mode: Mode,
+    slots: Option<u32>,
     names: Vec<Bytes>,
     servers: Vec<Bytes>,
     chans: Vec<Chan>,
@@ -44,9 +46,9 @@ impl Model for Reader {
 
     ghost use Rattle.call_script.specs.Within.{IsWithin};
 
-    ghost view = { λ r. record { mode = r.mode; names = r.names.items; servers = r.servers.items; chans = r.chans.items; calls = r.calls.items; acts = r.acts.items; events = r.events; weight = r.weight } };
+    ghost view = { λ r. record { mode = r.mode; slots = r.slots; names = r.names.items; servers = r.servers.items; chans = r.chans.items; calls = r.calls.items; acts = r.acts.items; events = r.events; weight = r.weight } };
 
-    ghost invariant = { λ r. IsWithin r.names.items r.servers.items r.chans.items r.calls.items r.acts.items r.events r.weight };
+    ghost invariant = { λ r. IsWithin r.slots r.names.items r.servers.items r.chans.items r.calls.items r.acts.items r.events r.weight };
 }
 
 impl Reader {
@@ -56,6 +58,7 @@ impl Reader {
         Reader {
             alloc,
             mode,
+            slots: None,
             names: Vec::new(alloc),
             servers: Vec::new(alloc),
             chans: Vec::new(alloc),
@@ -128,6 +131,7 @@ impl Reader {
         requires { length (lines.mention self.old.servers name.now) ≤ 16 }
         ensures servers { OnOk result (self.new ≡ record self.old { servers = lines.mention self.old.servers name.now }) }
         ensures number { IfOk result (λ n. n ≡ lines.server_number self.old.servers name.now) }
+        ensures known { IfOk result (λ n. n < length self.new.servers) }
         ensures cause { OnErr result (result ≡ Err LineFault.Memory) }
     {
         match index_of(&self.servers, name) {
@@ -144,19 +148,21 @@ impl Reader {
     /// One more channel.
     fn push_channel(&mut self, name: &[u8], leaf: LeafChan) -> Result<(), LineFault>
         requires room { length self.old.names < 1000 }
-        requires plain { IsPlainLeaf leaf }
+        requires plain { IsPlainLeaf (length self.old.servers) leaf }
         ensures channel { OnOk result (self.new ≡ record self.old { names = self.old.names ++ name.now ∷ []; chans = self.old.chans ++ chan.Leaf leaf ∷ [] }) }
         ensures cause { OnErr result (result ≡ Err LineFault.Memory) }
     {
         let owned = Vec::from_slice(self.alloc, name)?;
-        self.names.push(Bytes::of(owned))?;
         self.chans.push(Chan::Leaf(leaf))?;
+        self.names.push(Bytes::of(owned))?;
         Ok(())
     }
 
     /// One more event or join, where its kind has room.
     fn push_event(&mut self, act: Act) -> Result<(), LineFault>
-        requires { IsMoment act }
+        requires moment { IsMoment act }
+        requires fit { IsAct (length self.old.chans) act }
+        requires event { begins act [] ≡ [] }
         ensures { Judged result self.new (lines.with_event self.old act) }
     {
         if self.events >= 400_000 {
@@ -168,15 +174,30 @@ impl Reader {
     }
 
     /// One more call, which adds so much to the sum that has a limit.
-    fn push_call(&mut self, call: u32, chan: u32, act: Act, weight: u64) -> Result<(), LineFault>
-        requires moment { IsMoment act }
+    fn push_call(
+        &mut self,
+        at: u64,
+        call: u32,
+        chan: u32,
+        text: Bytes,
+        weight: u64,
+    ) -> Result<(), LineFault>
+        requires moment { at < 2 ^ 53 }
+        requires fresh { lines.chan_of self.old call ≡ None }
+        requires known { chan < length self.old.names }
+        requires short { length text ≤ 60000 }
         requires room { length self.old.calls < 100000 }
         requires light { self.old.weight + weight ≤ 2 ^ 30 }
-        ensures call { OnOk result (self.new ≡ record self.old { calls = self.old.calls ++ (call, chan) ∷ []; acts = self.old.acts ++ act ∷ []; weight = self.old.weight + weight }) }
+        ensures call { OnOk result (self.new ≡ record self.old { calls = self.old.calls ++ (call, chan) ∷ []; acts = self.old.acts ++ act.Call at call chan text ∷ []; weight = self.old.weight + weight }) }
         ensures cause { OnErr result (result ≡ Err LineFault.Memory) }
     {
         self.calls.push((call, chan))?;
-        self.acts.push(act)?;
+        self.acts.push(Act::Call {
+            at,
+            call,
+            chan,
+            text,
+        })?;
         self.weight += weight;
         Ok(())
     }
@@ -216,6 +237,21 @@ impl Reader {
         ensures { IsTrue result ↔ (length (lines.mention self.now.servers name.now) ≤ 16) }
     {
         index_of(&self.servers, name).is_some() || self.servers.len() < 16
+    }
+
+    /// `open N`, before every call line, and once
+    #[tactic(auto, unfolding(rpc_model::specs::Lines::open_line))]
+    fn open_line(&mut self, slots: &[u8]) -> Result<(), LineFault>
+        ensures { Judged result self.new (lines.open_line self.old slots.now) }
+    {
+        let Some(slots) = number(slots, 1, 4_096) else {
+            return Err(LineFault::Refused);
+        };
+        if self.slots.is_some() || !self.calls.is_empty() {
+            return Err(LineFault::Refused);
+        }
+        self.slots = Some(slots as u32);
+        Ok(())
     }
 
     /// `leaf NAME SERVER retry=0 backup=-1 timeout=T`
@@ -290,13 +326,7 @@ impl Reader {
             return Err(LineFault::Refused);
         }
         let text = Bytes::of(Vec::from_slice(self.alloc, payload)?);
-        let act = Act::Call {
-            at,
-            call,
-            chan,
-            text,
-        };
-        self.push_call(call, chan, act, weight)?;
+        self.push_call(at, call, chan, text, weight)?;
         Ok(())
     }
 
@@ -399,6 +429,7 @@ impl Reader {
         ensures { Judged result self.new (lines.words_say self.old (map (λ w. w.now) words.now)) }
     {
         match words {
+            [kind, slots] if **kind == *b"open".as_slice() => self.open_line(slots),
             [kind, call] if **kind == *b"join".as_slice() => self.join_line(call),
             [kind, at, what] if **kind == *b"at".as_slice() && **what == *b"tick".as_slice() => {
                 self.tick_line(at)
@@ -446,7 +477,7 @@ impl Reader {
     {
         Script {
             mode: self.mode,
-            slots: SLOTS,
+            slots: self.slots.unwrap_or(SLOTS),
             servers: self.servers.len() as u32,
             chans: List::of(self.chans),
             acts: List::of(self.acts),
