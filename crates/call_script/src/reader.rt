@@ -11,7 +11,9 @@ ghost use Rattle.rpc_model.specs.declared.chan.Chan.TheVariants as chan;
 ghost use Rattle.rpc_model.specs.declared.script.Act.TheVariants as act;
 ghost use Rattle.call_script.specs.Judged.{Judged};
 
+use crate::calls::Calls;
 use crate::fault::LineFault;
+use crate::names::Names;
 use crate::words::{all_within, attempt_word, is_name, number, number_option, text, wait_option};
 use rpc_base::{Bytes, List};
 use rpc_model::{Act, Chan, LeafChan, Mode, Script};
@@ -30,10 +32,10 @@ pub(crate) struct Reader {
     alloc: Global,
     mode: Mode,
     slots: Option<u32>,
-    names: Vec<Bytes>,
-    servers: Vec<Bytes>,
+    names: Names,
+    servers: Names,
     chans: Vec<Chan>,
-    calls: Vec<(u32, u32)>,
+    calls: Calls,
     acts: Vec<Act>,
     events: u64,
     weight: u64,
@@ -46,9 +48,9 @@ impl Model for Reader {
 
     ghost use Rattle.call_script.specs.Within.{IsWithin};
 
-    ghost view = { λ r. record { mode = r.mode; slots = r.slots; names = r.names.items; servers = r.servers.items; chans = r.chans.items; calls = r.calls.items; acts = r.acts.items; events = r.events; weight = r.weight } };
+    ghost view = { λ r. record { mode = r.mode; slots = r.slots; names = r.names; servers = r.servers; chans = r.chans.items; calls = r.calls; acts = r.acts.items; events = r.events; weight = r.weight } };
 
-    ghost invariant = { λ r. IsWithin r.slots r.names.items r.servers.items r.chans.items r.calls.items r.acts.items r.events r.weight };
+    ghost invariant = { λ r. IsWithin r.slots r.names r.servers r.chans.items r.calls r.acts.items r.events r.weight };
 }
 
 impl Reader {
@@ -59,10 +61,10 @@ impl Reader {
             alloc,
             mode,
             slots: None,
-            names: Vec::new(alloc),
-            servers: Vec::new(alloc),
+            names: Names::new(alloc),
+            servers: Names::new(alloc),
             chans: Vec::new(alloc),
-            calls: Vec::new(alloc),
+            calls: Calls::new(alloc),
             acts: Vec::new(alloc),
             events: 0,
             weight: 0,
@@ -73,10 +75,7 @@ impl Reader {
     fn chan_of(&self, call: u32) -> Option<u32>
         ensures { result ≡ lines.chan_of self.now call }
     {
-        self.calls
-            .iter()
-            .find(|known| known.0 == call)
-            .map(|known| known.1)
+        self.calls.chan_of(call)
     }
 
     /// How many attempts a call on this channel may issue.
@@ -134,12 +133,11 @@ impl Reader {
         ensures known { IfOk result (λ n. n < length self.new.servers) }
         ensures cause { OnErr result (result ≡ Err LineFault.Memory) }
     {
-        match index_of(&self.servers, name) {
+        match self.servers.find(name) {
             Some(at) => Ok(at as u32),
             None => {
                 let at = self.servers.len() as u32;
-                let owned = Vec::from_slice(self.alloc, name)?;
-                self.servers.push(Bytes::of(owned))?;
+                self.servers.push(name)?;
                 Ok(at)
             }
         }
@@ -147,15 +145,14 @@ impl Reader {
 
     /// One more channel.
     fn push_channel(&mut self, name: &[u8], leaf: LeafChan) -> Result<(), LineFault>
+        requires fresh { lines.index_of self.old.names name.now ≡ None }
         requires room { length self.old.names < 1000 }
         requires plain { IsPlainLeaf (length self.old.servers) leaf }
         ensures channel { OnOk result (self.new ≡ record self.old { names = self.old.names ++ name.now ∷ []; chans = self.old.chans ++ chan.Leaf leaf ∷ [] }) }
         ensures cause { OnErr result (result ≡ Err LineFault.Memory) }
     {
-        let owned = Vec::from_slice(self.alloc, name)?;
         self.chans.push(Chan::Leaf(leaf))?;
-        self.names.push(Bytes::of(owned))?;
-        Ok(())
+        self.names.push(name)
     }
 
     /// One more event or join, where its kind has room.
@@ -191,7 +188,7 @@ impl Reader {
         ensures call { OnOk result (self.new ≡ record self.old { calls = self.old.calls ++ (call, chan) ∷ []; acts = self.old.acts ++ act.Call at call chan text ∷ []; weight = self.old.weight + weight }) }
         ensures cause { OnErr result (result ≡ Err LineFault.Memory) }
     {
-        self.calls.push((call, chan))?;
+        self.calls.push(call, chan)?;
         self.acts.push(Act::Call {
             at,
             call,
@@ -211,6 +208,7 @@ impl Reader {
         backup: Option<u32>,
         timeout: Option<u32>,
     ) -> Result<(), LineFault>
+        requires fresh { lines.index_of self.old.names name.now ≡ None }
         requires room { length self.old.names < 1000 }
         requires server_room { length (lines.mention self.old.servers server.now) ≤ 16 }
         requires once { retry ≡ 0 }
@@ -236,7 +234,7 @@ impl Reader {
     fn has_server_room(&self, name: &[u8]) -> bool
         ensures { IsTrue result ↔ (length (lines.mention self.now.servers name.now) ≤ 16) }
     {
-        index_of(&self.servers, name).is_some() || self.servers.len() < 16
+        self.servers.find(name).is_some() || self.servers.len() < 16
     }
 
     /// `open N`, before every call line, and once
@@ -266,7 +264,7 @@ impl Reader {
     ) -> Result<(), LineFault>
         ensures { Judged result self.new (lines.leaf_line self.old name.now server.now retry.now backup.now timeout.now) }
     {
-        if !is_name(name) || index_of(&self.names, name).is_some() {
+        if !is_name(name) || self.names.find(name).is_some() {
             return Err(LineFault::Refused);
         }
         if !is_name(server) {
@@ -311,7 +309,7 @@ impl Reader {
         if self.chan_of(call).is_some() {
             return Err(LineFault::Refused);
         }
-        let Some(chan) = index_of(&self.names, name) else {
+        let Some(chan) = self.names.find(name) else {
             return Err(LineFault::Refused);
         };
         let chan = chan as u32;
@@ -483,14 +481,6 @@ impl Reader {
             acts: List::of(self.acts),
         }
     }
-}
-
-/// Where a name stands first among names.
-fn index_of(names: &[Bytes], name: &[u8]) -> Option<usize>
-    ensures value { result ≡ lines.index_of names.now name.now }
-    ensures bound { IfSome result (λ at. at < length names.now) }
-{
-    names.iter().position(|known| known.list() == name)
 }
 
 /// A moment in milliseconds, below 2^53.
