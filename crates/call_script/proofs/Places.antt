@@ -46,7 +46,7 @@ pub finds_call : (old new : BTreeMap ℕ ℕ) (calls : List (ℕ × ℕ)) (numbe
     → Updates nat_cmp old new number (Some (length calls)) → FindsCalls new (calls ++ (number, chan) ∷ [])
 finds_call old new calls number chan finds none updates other =
     updates.0 other ∙ ap (λ b. cond b (Some (length calls)) (get nat_cmp old other)) (sym (unsigned_ties number other)) ∙ ap (cond (number == other) (Some (length calls))) (finds other)
-        ∙ sym (position_push (λ c. c.0 == other) calls (number, chan) (λ same. subst (λ n. position (λ c. c.0 == n) calls ≡ None) (eqb-true number other same) (no_call calls number none)))
+    ∙ sym (position_push (λ c. c.0 == other) calls (number, chan) (λ same. subst (λ n. position (λ c. c.0 == n) calls ≡ None) (eqb-true number other same) (no_call calls number none)))
 
 -- A change at one key leaves what a search for others finds.
 other_entries : {K X : Type 0} (eq : K → K → Bool) (test : K → Bool) (old new : List (K × X)) → KeepsOthers eq test old new → (other : K → Bool) → IsKeyTest eq other → AreApart test other → lookup other new ≡ lookup other old
@@ -66,7 +66,7 @@ finds_key old new names key finds none updates name =
     at (inl same) = subst (λ n. get_by (λ k. slice_cmp nat_cmp n k.items) new ≡ Some (length names)) ((bytes_eq-Decides key.items name).0 same) updates.1 ∙ sym (cond-true (bytes_eq key.items name) (Some (length names)) (index_of names name) same)
     at (inr differs) =
         other_entries _ _ _ _ updates.3 (λ k. is_eq (slice_cmp nat_cmp name k.items)) (λ x y. (eq_by_cmp_equiv nat_list_cmp_total).congr name x.items y.items) (λ k. apart k.items differs)
-            ∙ finds name ∙ sym (cond-false (bytes_eq key.items name) (Some (length names)) (index_of names name) differs)
+        ∙ finds name ∙ sym (cond-false (bytes_eq key.items name) (Some (length names)) (index_of names name) differs)
 
 pub finds_name : (old new : BTreeMap (Vec ℕ) ℕ) (names : List (List ℕ)) (key : Vec ℕ) (name : List ℕ) → key.items ≡ name → FindsNames old names → index_of names name ≡ None
     → Updates (λ x y. slice_cmp nat_cmp x.items y.items) old new key (Some (length names)) → FindsNames new (names ++ name ∷ [])

@@ -71,13 +71,6 @@ impl Reader {
         }
     }
 
-    /// The channel of the call of this number, where an earlier line begins it.
-    fn chan_of(&self, call: u32) -> Option<u32>
-        ensures { result ≡ lines.chan_of self.now call }
-    {
-        self.calls.chan_of(call)
-    }
-
     /// How many attempts a call on this channel may issue.
     fn attempts_on(&self, chan: u32) -> u64
         ensures value { (call : ℕ) → result ≡ lines.attempts_of (plan self.now.chans chan call) }
@@ -306,7 +299,7 @@ impl Reader {
         let Some(call) = call_number(call) else {
             return Err(LineFault::Refused);
         };
-        if self.chan_of(call).is_some() {
+        if self.calls.chan_of(call).is_some() {
             return Err(LineFault::Refused);
         }
         let Some(chan) = self.names.find(name) else {
@@ -349,7 +342,7 @@ impl Reader {
         let Some(call) = call_number(call) else {
             return Err(LineFault::Refused);
         };
-        let Some(chan) = self.chan_of(call) else {
+        let Some(chan) = self.calls.chan_of(call) else {
             return Err(LineFault::Refused);
         };
         let Some((node, attempt)) = attempt_word(attempt) else {
@@ -387,7 +380,7 @@ impl Reader {
         let Some(call) = call_number(call) else {
             return Err(LineFault::Refused);
         };
-        if self.chan_of(call).is_none() {
+        if self.calls.chan_of(call).is_none() {
             return Err(LineFault::Refused);
         }
         self.push_event(Act::Cancel { at, call })
@@ -415,7 +408,7 @@ impl Reader {
         let Some(call) = call_number(call) else {
             return Err(LineFault::Refused);
         };
-        if self.chan_of(call).is_none() {
+        if self.calls.chan_of(call).is_none() {
             return Err(LineFault::Refused);
         }
         self.push_event(Act::Join { call })
