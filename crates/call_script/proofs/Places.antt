@@ -1,8 +1,8 @@
 -- What the tree beside a list finds, and what it finds after one more.
-use Rattle.std.proofs.Common.{rules, ◌≡◌, ℕ, ◌+◌, ◌<◌, ◌==◌, Bool, true, false, cond, List, [], ◌∷◌, ◌++◌, length, length-append, position, find, get_or, Option, Some, None, arith, ap, sym, ◌∙◌, refl, subst, nat_cmp, bytes_eq, inl, inr, ◌⊎◌}
+use Rattle.std.proofs.Common.{◌≡◌, ℕ, ◌<◌, ◌==◌, Bool, true, false, cond, List, [], ◌∷◌, ◌++◌, length, length-append, position, find, get_or, Option, Some, None, arith, ap, sym, ◌∙◌, refl, subst, nat_cmp, bytes_eq, inl, inr, ◌⊎◌}
 use Rattle.std.specs.Option.{option_map, IfSome}
 use Rattle.std.specs.Global.{Vec}
-use Rattle.std.specs.Ordering.{is_eq, eq_by_cmp}
+use Rattle.std.specs.Ordering.{is_eq}
 use Rattle.std.specs.Cmp.{eq_by_cmp_equiv, unsigned_ties}
 use Rattle.std.specs.Cmp.Lexicographic.{slice_cmp, nat_list_cmp_total, nat_list_eq_equiv}
 use Rattle.std.specs.Map.{lookup, IsKeyTest, AreApart, KeepsOthers}
@@ -14,7 +14,7 @@ use Rattle.std.proofs.lemmas.List.Folds.{position_or_len_push}
 use Rattle.std.proofs.lemmas.List.Sums.{prefix_len-le-length}
 use Rattle.std.proofs.lemmas.Map.Text.{is_eq-slice_cmp}
 use Rattle.rpc_model.specs.Lines.{index_of}
-use Rattle.rpc_model.proofs.First.{position_none, position_some, found, unfound}
+use Rattle.rpc_model.proofs.First.{position_some, found, unfound}
 use Rattle.call_script.specs.Places.{FindsNames, FindsCalls}
 
 -- The place of the first that passes, after one more that passes only where none does.

@@ -1,5 +1,5 @@
 -- The call at its place.
-use Rattle.std.proofs.Common.{rules, ◌∙◌, sym, ap}
+use Rattle.std.proofs.Common.{◌∙◌, sym, ap}
 use Rattle.std.specs.Option.{option_copied}
 use Rattle.call_script.proofs.Places.{no_chan, chan_at}
 use Rattle.call_script.proofs.calls.Calls.chan_of.Goals as goal
