@@ -144,6 +144,7 @@ impl Reader {
         ensures channel { OnOk result (self.new ≡ record self.old { names = self.old.names ++ name.now ∷ []; chans = self.old.chans ++ chan.Leaf leaf ∷ [] }) }
         ensures cause { OnErr result (result ≡ Err LineFault.Memory) }
     {
+        // The channel first, so that each name has one also after want of memory.
         self.chans.push(Chan::Leaf(leaf))?;
         self.names.push(name)
     }
@@ -181,6 +182,7 @@ impl Reader {
         ensures call { OnOk result (self.new ≡ record self.old { calls = self.old.calls ++ (call, chan) ∷ []; acts = self.old.acts ++ act.Call at call chan text ∷ []; weight = self.old.weight + weight }) }
         ensures cause { OnErr result (result ≡ Err LineFault.Memory) }
     {
+        // The number first, so that each call that is kept is found also after want of memory.
         self.calls.push(call, chan)?;
         self.acts.push(Act::Call {
             at,
