@@ -1,7 +1,9 @@
 //! The text of a script, read once, line by line, into typed lines; and what a replay tells, as text.
 #![tactic(auto)]
 
+mod calls;
 mod fault;
+mod names;
 mod reader;
 mod reading;
 mod words;

@@ -5,12 +5,15 @@ ghost use Rattle.std.specs.Option.{option_map};
 ghost use Rattle.std.specs.List.{slice_split};
 ghost use Rattle.rpc_model.specs.Lines as lines;
 ghost use Rattle.rpc_model.specs.Plan.{plan};
-ghost use Rattle.rpc_model.specs.Fits.{Fits, IsMoment, IsPlainLeaf, IsWait};
+ghost use Rattle.rpc_model.specs.Fits.{Fits, IsAct, IsMoment, IsPlainLeaf, IsWait, begins};
 ghost use Rattle.rpc_model.specs.Script.{script_of};
 ghost use Rattle.rpc_model.specs.declared.chan.Chan.TheVariants as chan;
+ghost use Rattle.rpc_model.specs.declared.script.Act.TheVariants as act;
 ghost use Rattle.call_script.specs.Judged.{Judged};
 
+use crate::calls::Calls;
 use crate::fault::LineFault;
+use crate::names::Names;
 use crate::words::{all_within, attempt_word, is_name, number, number_option, text, wait_option};
 use rpc_base::{Bytes, List};
 use rpc_model::{Act, Chan, LeafChan, Mode, Script};
@@ -28,10 +31,11 @@ const SLOTS: u32 = 1_024;
 pub(crate) struct Reader {
     alloc: Global,
     mode: Mode,
-    names: Vec<Bytes>,
-    servers: Vec<Bytes>,
+    slots: Option<u32>,
+    names: Names,
+    servers: Names,
     chans: Vec<Chan>,
-    calls: Vec<(u32, u32)>,
+    calls: Calls,
     acts: Vec<Act>,
     events: u64,
     weight: u64,
@@ -44,9 +48,9 @@ impl Model for Reader {
 
     ghost use Rattle.call_script.specs.Within.{IsWithin};
 
-    ghost view = { λ r. record { mode = r.mode; names = r.names.items; servers = r.servers.items; chans = r.chans.items; calls = r.calls.items; acts = r.acts.items; events = r.events; weight = r.weight } };
+    ghost view = { λ r. record { mode = r.mode; slots = r.slots; names = r.names; servers = r.servers; chans = r.chans.items; calls = r.calls; acts = r.acts.items; events = r.events; weight = r.weight } };
 
-    ghost invariant = { λ r. IsWithin r.names.items r.servers.items r.chans.items r.calls.items r.acts.items r.events r.weight };
+    ghost invariant = { λ r. IsWithin r.slots r.names r.servers r.chans.items r.calls r.acts.items r.events r.weight };
 }
 
 impl Reader {
@@ -56,24 +60,15 @@ impl Reader {
         Reader {
             alloc,
             mode,
-            names: Vec::new(alloc),
-            servers: Vec::new(alloc),
+            slots: None,
+            names: Names::new(alloc),
+            servers: Names::new(alloc),
             chans: Vec::new(alloc),
-            calls: Vec::new(alloc),
+            calls: Calls::new(alloc),
             acts: Vec::new(alloc),
             events: 0,
             weight: 0,
         }
-    }
-
-    /// The channel of the call of this number, where an earlier line begins it.
-    fn chan_of(&self, call: u32) -> Option<u32>
-        ensures { result ≡ lines.chan_of self.now call }
-    {
-        self.calls
-            .iter()
-            .find(|known| known.0 == call)
-            .map(|known| known.1)
     }
 
     /// How many attempts a call on this channel may issue.
@@ -128,14 +123,14 @@ impl Reader {
         requires { length (lines.mention self.old.servers name.now) ≤ 16 }
         ensures servers { OnOk result (self.new ≡ record self.old { servers = lines.mention self.old.servers name.now }) }
         ensures number { IfOk result (λ n. n ≡ lines.server_number self.old.servers name.now) }
+        ensures known { IfOk result (λ n. n < length self.new.servers) }
         ensures cause { OnErr result (result ≡ Err LineFault.Memory) }
     {
-        match index_of(&self.servers, name) {
+        match self.servers.find(name) {
             Some(at) => Ok(at as u32),
             None => {
                 let at = self.servers.len() as u32;
-                let owned = Vec::from_slice(self.alloc, name)?;
-                self.servers.push(Bytes::of(owned))?;
+                self.servers.push(name)?;
                 Ok(at)
             }
         }
@@ -143,20 +138,22 @@ impl Reader {
 
     /// One more channel.
     fn push_channel(&mut self, name: &[u8], leaf: LeafChan) -> Result<(), LineFault>
+        requires fresh { lines.index_of self.old.names name.now ≡ None }
         requires room { length self.old.names < 1000 }
-        requires plain { IsPlainLeaf leaf }
+        requires plain { IsPlainLeaf (length self.old.servers) leaf }
         ensures channel { OnOk result (self.new ≡ record self.old { names = self.old.names ++ name.now ∷ []; chans = self.old.chans ++ chan.Leaf leaf ∷ [] }) }
         ensures cause { OnErr result (result ≡ Err LineFault.Memory) }
     {
-        let owned = Vec::from_slice(self.alloc, name)?;
-        self.names.push(Bytes::of(owned))?;
+        // The channel first, so that each name has one also after want of memory.
         self.chans.push(Chan::Leaf(leaf))?;
-        Ok(())
+        self.names.push(name)
     }
 
     /// One more event or join, where its kind has room.
     fn push_event(&mut self, act: Act) -> Result<(), LineFault>
-        requires { IsMoment act }
+        requires moment { IsMoment act }
+        requires fit { IsAct (length self.old.chans) act }
+        requires event { begins act [] ≡ [] }
         ensures { Judged result self.new (lines.with_event self.old act) }
     {
         if self.events >= 400_000 {
@@ -168,15 +165,31 @@ impl Reader {
     }
 
     /// One more call, which adds so much to the sum that has a limit.
-    fn push_call(&mut self, call: u32, chan: u32, act: Act, weight: u64) -> Result<(), LineFault>
-        requires moment { IsMoment act }
+    fn push_call(
+        &mut self,
+        at: u64,
+        call: u32,
+        chan: u32,
+        text: Bytes,
+        weight: u64,
+    ) -> Result<(), LineFault>
+        requires moment { at < 2 ^ 53 }
+        requires fresh { lines.chan_of self.old call ≡ None }
+        requires known { chan < length self.old.names }
+        requires short { length text ≤ 60000 }
         requires room { length self.old.calls < 100000 }
         requires light { self.old.weight + weight ≤ 2 ^ 30 }
-        ensures call { OnOk result (self.new ≡ record self.old { calls = self.old.calls ++ (call, chan) ∷ []; acts = self.old.acts ++ act ∷ []; weight = self.old.weight + weight }) }
+        ensures call { OnOk result (self.new ≡ record self.old { calls = self.old.calls ++ (call, chan) ∷ []; acts = self.old.acts ++ act.Call at call chan text ∷ []; weight = self.old.weight + weight }) }
         ensures cause { OnErr result (result ≡ Err LineFault.Memory) }
     {
-        self.calls.push((call, chan))?;
-        self.acts.push(act)?;
+        // The number first, so that each call that is kept is found also after want of memory.
+        self.calls.push(call, chan)?;
+        self.acts.push(Act::Call {
+            at,
+            call,
+            chan,
+            text,
+        })?;
         self.weight += weight;
         Ok(())
     }
@@ -190,6 +203,7 @@ impl Reader {
         backup: Option<u32>,
         timeout: Option<u32>,
     ) -> Result<(), LineFault>
+        requires fresh { lines.index_of self.old.names name.now ≡ None }
         requires room { length self.old.names < 1000 }
         requires server_room { length (lines.mention self.old.servers server.now) ≤ 16 }
         requires once { retry ≡ 0 }
@@ -215,7 +229,22 @@ impl Reader {
     fn has_server_room(&self, name: &[u8]) -> bool
         ensures { IsTrue result ↔ (length (lines.mention self.now.servers name.now) ≤ 16) }
     {
-        index_of(&self.servers, name).is_some() || self.servers.len() < 16
+        self.servers.find(name).is_some() || self.servers.len() < 16
+    }
+
+    /// `open N`, before every call line, and once
+    #[tactic(auto, unfolding(rpc_model::specs::Lines::open_line))]
+    fn open_line(&mut self, slots: &[u8]) -> Result<(), LineFault>
+        ensures { Judged result self.new (lines.open_line self.old slots.now) }
+    {
+        let Some(slots) = number(slots, 1, 4_096) else {
+            return Err(LineFault::Refused);
+        };
+        if self.slots.is_some() || !self.calls.is_empty() {
+            return Err(LineFault::Refused);
+        }
+        self.slots = Some(slots as u32);
+        Ok(())
     }
 
     /// `leaf NAME SERVER retry=0 backup=-1 timeout=T`
@@ -230,7 +259,7 @@ impl Reader {
     ) -> Result<(), LineFault>
         ensures { Judged result self.new (lines.leaf_line self.old name.now server.now retry.now backup.now timeout.now) }
     {
-        if !is_name(name) || index_of(&self.names, name).is_some() {
+        if !is_name(name) || self.names.find(name).is_some() {
             return Err(LineFault::Refused);
         }
         if !is_name(server) {
@@ -272,10 +301,10 @@ impl Reader {
         let Some(call) = call_number(call) else {
             return Err(LineFault::Refused);
         };
-        if self.chan_of(call).is_some() {
+        if self.calls.chan_of(call).is_some() {
             return Err(LineFault::Refused);
         }
-        let Some(chan) = index_of(&self.names, name) else {
+        let Some(chan) = self.names.find(name) else {
             return Err(LineFault::Refused);
         };
         let chan = chan as u32;
@@ -290,13 +319,7 @@ impl Reader {
             return Err(LineFault::Refused);
         }
         let text = Bytes::of(Vec::from_slice(self.alloc, payload)?);
-        let act = Act::Call {
-            at,
-            call,
-            chan,
-            text,
-        };
-        self.push_call(call, chan, act, weight)?;
+        self.push_call(at, call, chan, text, weight)?;
         Ok(())
     }
 
@@ -321,7 +344,7 @@ impl Reader {
         let Some(call) = call_number(call) else {
             return Err(LineFault::Refused);
         };
-        let Some(chan) = self.chan_of(call) else {
+        let Some(chan) = self.calls.chan_of(call) else {
             return Err(LineFault::Refused);
         };
         let Some((node, attempt)) = attempt_word(attempt) else {
@@ -359,7 +382,7 @@ impl Reader {
         let Some(call) = call_number(call) else {
             return Err(LineFault::Refused);
         };
-        if self.chan_of(call).is_none() {
+        if self.calls.chan_of(call).is_none() {
             return Err(LineFault::Refused);
         }
         self.push_event(Act::Cancel { at, call })
@@ -387,7 +410,7 @@ impl Reader {
         let Some(call) = call_number(call) else {
             return Err(LineFault::Refused);
         };
-        if self.chan_of(call).is_none() {
+        if self.calls.chan_of(call).is_none() {
             return Err(LineFault::Refused);
         }
         self.push_event(Act::Join { call })
@@ -399,6 +422,7 @@ impl Reader {
         ensures { Judged result self.new (lines.words_say self.old (map (λ w. w.now) words.now)) }
     {
         match words {
+            [kind, slots] if **kind == *b"open".as_slice() => self.open_line(slots),
             [kind, call] if **kind == *b"join".as_slice() => self.join_line(call),
             [kind, at, what] if **kind == *b"at".as_slice() && **what == *b"tick".as_slice() => {
                 self.tick_line(at)
@@ -446,20 +470,12 @@ impl Reader {
     {
         Script {
             mode: self.mode,
-            slots: SLOTS,
+            slots: self.slots.unwrap_or(SLOTS),
             servers: self.servers.len() as u32,
             chans: List::of(self.chans),
             acts: List::of(self.acts),
         }
     }
-}
-
-/// Where a name stands first among names.
-fn index_of(names: &[Bytes], name: &[u8]) -> Option<usize>
-    ensures value { result ≡ lines.index_of names.now name.now }
-    ensures bound { IfSome result (λ at. at < length names.now) }
-{
-    names.iter().position(|known| known.list() == name)
 }
 
 /// A moment in milliseconds, below 2^53.

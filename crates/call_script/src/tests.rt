@@ -95,7 +95,6 @@ fn refused_lines(rt: HostRuntime) -> Result<(), Fail> {
         "leaf y b retry=1 backup=-1 timeout=1",
         "leaf y b retry=0 backup=1 timeout=1",
         "leaf y b,c retry=0 backup=-1 timeout=1",
-        "open 1",
         "sel s retry=0 timeout=-1 x",
         "at 5 lose 1 0#0 1009",
         // Names: 33 characters, upper case, another character, none.
@@ -112,6 +111,8 @@ fn refused_lines(rt: HostRuntime) -> Result<(), Fail> {
         "join 2",
         "at 5 cancel 2",
         "at 5 reply 2 0#0 0 abc",
+        // After a call line.
+        "open 1",
         // Attempts that the call can't issue.
         "at 5 reply 1 0#1 0 abc",
         "at 5 reply 1 1#0 0 abc",
@@ -145,6 +146,39 @@ fn refused_lines(rt: HostRuntime) -> Result<(), Fail> {
     // The first bad line is named, whatever follows.
     let bytes = with_line(rt.alloc(), "\n# so far\nwhat\njoin 2\n")?;
     assert_eq!(rt; bad_line(rt.alloc(), &bytes), Some(5));
+    Ok(())
+}
+
+#[test]
+fn open_lines(rt: HostRuntime) -> Result<(), Fail> {
+    for (text, wanted) in [
+        ("", Ok(1024)),
+        ("open 1", Ok(1)),
+        ("open 4096", Ok(4096)),
+        (
+            "leaf x a retry=0 backup=-1 timeout=5\nopen 7\nat 0 call 1 x hi",
+            Ok(7),
+        ),
+        ("at 0 tick\nopen 7", Ok(7)),
+        ("open 0", Err(1)),
+        ("open 4097", Err(1)),
+        ("open 01", Err(1)),
+        ("open -1", Err(1)),
+        ("open", Err(1)),
+        ("open 1 1", Err(1)),
+        ("open 2\nopen 2", Err(2)),
+        (
+            "leaf x a retry=0 backup=-1 timeout=5\nat 0 call 1 x hi\nopen 7",
+            Err(3),
+        ),
+    ] {
+        let found = match read_script(rt.alloc(), Mode::Sim, text.as_bytes()) {
+            Ok(script) => Ok(script.slots),
+            Err(ScriptFault::Bad(line, _)) => Err(line),
+            Err(ScriptFault::Memory) => Err(u32::MAX),
+        };
+        assert_eq!(rt; found, wanted, "at {text}");
+    }
     Ok(())
 }
 
