@@ -2,10 +2,7 @@
 #![tactic(auto)]
 
 mod input;
-mod open_call;
 mod output;
-mod replay;
-mod standing;
 mod status;
 mod top;
 

@@ -133,6 +133,36 @@ fn worked_rows(rt: HostRuntime) -> Result<(), Fail> {
             0,
             "1 fail 1008 1\n",
         ),
+        // A slot that is free again: the late reply carries the old id and finds nothing.
+        (
+            "open 1\nleaf x a retry=0 backup=-1 timeout=500\nat 0 call 1 x hi\nat 5 reply 1 0#0 0 abc\njoin 1\nat 10 call 2 x u\nat 11 reply 1 0#0 0 abc\njoin 2\n",
+            0,
+            "1 ok 1 abc\n2 fail 1008 1\n",
+        ),
+        // The second call finds no slot.
+        (
+            "open 1\nleaf x a retry=0 backup=-1 timeout=500\nat 0 call 1 x hi\nat 1 call 2 x u\nat 5 reply 1 0#0 0 abc\njoin 1\njoin 2\n",
+            0,
+            "2 full\n1 ok 1 abc\n2 gone\n",
+        ),
+        // Events of a call that found no slot do nothing to it, and still move the moment reached.
+        (
+            "open 1\nleaf x a retry=0 backup=-1 timeout=500\nat 0 call 1 x hi\nat 0 call 2 x u\nat 400 reply 2 0#0 0 abc\nat 500 cancel 2\nat 5 reply 1 0#0 0 abc\njoin 2\njoin 1\n",
+            0,
+            "2 full\n2 gone\n1 fail 1008 1\n",
+        ),
+        // A join that tells no end keeps the slot; the one that tells an end frees it.
+        (
+            "open 1\nleaf x a retry=0 backup=-1 timeout=-1\nat 0 call 1 x hi\njoin 1\nat 0 call 2 x u\nat 1 cancel 1\nat 2 call 3 x u\njoin 1\nat 3 call 4 x u\nat 4 reply 4 0#0 0 z\njoin 4\njoin 3\njoin 2\n",
+            0,
+            "1 open\n2 full\n3 full\n1 fail 125 1\n4 ok 1 z\n3 gone\n2 gone\n",
+        ),
+        // The lowest slot is taken again while the other is held, and each reply finds its own call.
+        (
+            "open 2\nleaf x a retry=0 backup=-1 timeout=-1\nleaf y b retry=0 backup=-1 timeout=-1\nat 0 call 1 x q\nat 0 call 2 y r\nat 1 reply 1 0#0 0 one\njoin 1\nat 2 call 3 x s\nat 3 reply 1 0#0 0 late\nat 4 reply 2 0#0 0 two\nat 5 reply 3 0#0 0 three\njoin 3\njoin 2\n",
+            0,
+            "1 ok 1 one\n3 ok 1 three\n2 ok 1 two\n",
+        ),
         // Late moments.
         (
             "leaf x a retry=0 backup=-1 timeout=2147483647\nat 9007199254740991 call 1 x hi\nat 9007199254740991 reply 1 0#0 0 abc\njoin 1\n",

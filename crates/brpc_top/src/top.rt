@@ -10,11 +10,11 @@ ghost use Rattle.rpc_model.specs.Text.{told_text};
 
 use crate::input::{ReadStop, read_script_bytes};
 use crate::output::write_all;
-use crate::replay::told_by;
 use crate::status::Status;
 use call_script::{ScriptFault, read_script, write_refusal, write_told};
 use rpc_base::{Failed, NoMemory, Sink, Source};
 use rpc_model::{Mode, Told};
+use sim_run::replay;
 use std::alloc::Global;
 
 /// Runs the command that the words name and answers the status that the program ends with.
@@ -128,10 +128,14 @@ fn output_of(alloc: Global, bytes: &[u8]) -> Result<Output, NoMemory>
     ensures status { IfOk result (λ o. number_of o.status ≡ status_of (script mode.Sim bytes.now)) }
 {
     match read_script(alloc, Mode::Sim, bytes) {
-        Ok(script) => Ok(Output {
-            text: told_text_of(alloc, &told_by(alloc, &script)?)?,
-            status: Status::Done,
-        }),
+        Ok(script) => {
+            let mut told = Vec::new(alloc);
+            replay(alloc, &script, &mut told)?;
+            Ok(Output {
+                text: told_text_of(alloc, &told)?,
+                status: Status::Done,
+            })
+        }
         Err(ScriptFault::Bad(line, cause)) => {
             let mut text = Vec::new(alloc);
             write_refusal(alloc, line, cause, &mut text)?;

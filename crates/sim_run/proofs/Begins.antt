@@ -1,20 +1,20 @@
 -- A call that begins takes the lowest vacant slot, or finds none.
-use Rattle.std.proofs.Common.{◌≡◌, ◌≢◌, ℕ, zero, suc, ◌+◌, ◌*◌, ◌^◌, ◌<◌, ◌≤◌, inl, ◌==◌, nat_le, Bool, true, false, cond, nat_eq, List, [], ◌∷◌, ◌++◌, map, length, slice_get, count_by, Option, None, Some, ap, sym, refl, ◌∙◌, subst, arith, add-one, length-append}
-use Rattle.std.proofs.lemmas.Bool.{ne_eqb, eq-eqb}
+use Rattle.std.proofs.Common.{◌≡◌, ℕ, zero, suc, ◌+◌, ◌*◌, ◌^◌, ◌<◌, ◌≤◌, inl, Bool, true, false, cond, nat_eq, List, [], ◌∷◌, ◌++◌, length, slice_get, count_by, Option, None, Some, ap, sym, refl, ◌∙◌, subst, arith, add-one, length-append}
+use Rattle.std.proofs.lemmas.Bool.{ne_eqb}
 use Rattle.std.proofs.lemmas.List.{map-append, append-nil}
 use Rattle.std.proofs.lemmas.List.Sums.{sum_by-append, count_by-le-length}
 use Rattle.std.proofs.lemmas.Map.Keys.{IsDistinct-cons, IsDistinct-head, IsDistinct-tail}
 use Rattle.std.specs.List.{IsDistinct, AllByRecursion}
-use Rattle.std.specs.Map.{keys_of, lookup}
+use Rattle.std.specs.Map.{keys_of}
 use Rattle.rpc_model.specs.Marks.{Begun}
-use Rattle.rpc_model.specs.Told.{Standing, begun, full, told_of, is_begun}
+use Rattle.rpc_model.specs.Told.{Standing, begun, full, is_begun}
 use Rattle.id_pool.specs.Ids.{make_id, slot_of, version_of}
-use Rattle.id_pool.specs.Ranges.{Slot, Vacant, Retired, Taken, Range, Free, look, lowest, later, offset, change, created, fresh, seen, slot_at}
+use Rattle.id_pool.specs.Ranges.{Slot, Vacant, Retired, Taken, Free, look, lowest, later, offset, change, fresh, slot_at}
 use Rattle.id_pool.specs.Answers.{value_says}
 use Rattle.id_pool.proofs.Ids.{slot_of-make_id, version_of-make_id}
 use Rattle.sim_run.specs.declared.ticket.Ticket.{Ticket}
-use Rattle.sim_run.specs.Desk.{stand, standing_at, standing, standings, with_first, firsts, IsOf, IsOfSlot, IsNumbered, IsKnown, is_taken, IsSlot, IsSound, IsPast}
-use Rattle.sim_run.proofs.Apart.{IsNext, IsAside, StandsAside, stands-aside, past-change, length-change}
+use Rattle.sim_run.specs.Desk.{stand, standing_at, standing, standings, with_first, firsts, IsOfSlot, IsNumbered, IsKnown, is_taken, IsSlot, IsSound, IsPast}
+use Rattle.sim_run.proofs.Apart.{StandsAside, stands-aside, past-change, length-change}
 use Rattle.sim_run.proofs.Changes.{look-at, seen-taken}
 use Rattle.sim_run.proofs.Steps.{offset-in}
 use Rattle.sim_run.proofs.Entries.{one, count-cons, count-change, All-change, slot-of-all}

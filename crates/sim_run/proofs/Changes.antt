@@ -1,7 +1,7 @@
 -- Changes of the slot that an id names, one after the other.
-use Rattle.std.proofs.Common.{◌≡◌, ◌≢◌, ℕ, zero, suc, Bool, List, [], ◌∷◌, slice_get, Option, None, Some, ap, sym, refl, ◌∙◌}
+use Rattle.std.proofs.Common.{◌≡◌, ◌≢◌, ℕ, zero, suc, List, [], ◌∷◌, slice_get, Option, None, Some, ap, sym, refl, ◌∙◌}
 use Rattle.id_pool.specs.Ids.{slot_of, version_of}
-use Rattle.id_pool.specs.Ranges.{Slot, Vacant, Retired, Taken, Range, Standing, Free, Held, Ended, Seen, Nothing, Unlocked, Locked, offset, seen, seen_at, seen_in, look, slot_at, change, change_at, changed, locked, locked_by, unlocked, unlocked_by, held, stands, valued, with_value}
+use Rattle.id_pool.specs.Ranges.{Slot, Vacant, Retired, Taken, Range, Standing, Free, Held, Ended, Seen, Nothing, Unlocked, Locked, offset, seen, seen_at, seen_in, look, slot_at, change, change_at, changed, locked, locked_by, unlocked, unlocked_by, held, valued, with_value}
 use Rattle.id_pool.specs.Answers.{lock_says, value_says}
 use Rattle.id_pool.specs.declared.answers.Lock.TheVariants.{Yes}
 use Rattle.sim_run.specs.Slots.{visit, visit_by, touch, touch_by}

@@ -1,19 +1,18 @@
 -- One call's step among all calls: its standing changes, and no other does.
-use Rattle.std.proofs.Common.{◌≡◌, ◌≢◌, ℕ, zero, suc, ◌+◌, ◌*◌, ◌<◌, ◌≤◌, ◌==◌, ◌⊎◌, inl, inr, Bool, true, false, cond, nat_eq, List, [], ◌∷◌, ◌++◌, map, length, slice_get, find, count_by, Option, None, Some, ap, sym, refl, ◌∙◌, subst, arith, if◌then◌else◌, true≢false}
+use Rattle.std.proofs.Common.{◌≡◌, ◌≢◌, ℕ, zero, suc, ◌+◌, ◌==◌, ◌⊎◌, inl, inr, Bool, true, false, cond, nat_eq, List, [], ◌∷◌, slice_get, find, count_by, Option, None, Some, ap, sym, refl, ◌∙◌, subst, arith, if◌then◌else◌}
 use Rattle.std.proofs.lemmas.Bool.{eqb-true, eqb-false, eq-eqb, ne_eqb}
 use Rattle.std.proofs.lemmas.Bool.Decides.{eqb_tells}
 use Rattle.std.proofs.lemmas.List.Sums.{sum_by-cons}
 use Rattle.std.proofs.lemmas.Map.Keys.{IsDistinct-head, IsDistinct-tail}
 use Rattle.std.specs.List.{IsDistinct, AllByRecursion}
-use Rattle.std.specs.Map.{keys_of, lookup}
+use Rattle.std.specs.Map.{lookup}
 use Rattle.std.specs.Option.{option_map}
 use Rattle.rpc_model.specs.Marks.{Begun}
-use Rattle.rpc_model.specs.Told.{Standing, begun, full, told_of, number_of, is_call, is_begun, change_first}
-use Rattle.id_pool.specs.Ids.{slot_of, version_of}
-use Rattle.id_pool.specs.Ranges.{Slot, Vacant, Retired, Taken, Range, change, look}
+use Rattle.rpc_model.specs.Told.{Standing, number_of, is_call, change_first}
+use Rattle.id_pool.specs.Ranges.{Slot, change, look}
 use Rattle.id_pool.specs.Answers.{value_says}
 use Rattle.sim_run.specs.declared.ticket.Ticket.{Ticket}
-use Rattle.sim_run.specs.Desk.{stand, standing_at, standing, standings, with_first, firsts, IsKnown, IsNumbered, is_taken, IsSlot, IsSound}
+use Rattle.sim_run.specs.Desk.{stand, standing_at, standing, standings, with_first, firsts, IsKnown, IsNumbered}
 use Rattle.sim_run.proofs.Apart.{StandsAside}
 
 nat_eq-flip : (a b : ℕ) → (b == a) ≡ nat_eq a b

@@ -1,19 +1,15 @@
 -- A join line of a replay.
-use Rattle.std.proofs.Common.{◌≡◌, ◌≢◌, ℕ, ◌+◌, ◌≤◌, nat_eq, List, [], ◌∷◌, ◌++◌, length, find, Option, None, Some, ap, sym, refl, ◌∙◌}
+use Rattle.std.proofs.Common.{◌≡◌, ◌≢◌, ℕ, ◌≤◌, nat_eq, List, [], ◌∷◌, length, find, None, Some, ap, sym, refl, ◌∙◌}
 use Rattle.std.specs.Map.{lookup}
 use Rattle.rpc_model.specs.declared.script.Script.{Script}
 use Rattle.rpc_model.specs.declared.told.Told.{Told}
 use Rattle.rpc_model.specs.declared.told.Told.TheVariants.{Gone}
-use Rattle.rpc_model.specs.Marks.{Begun}
 use Rattle.rpc_model.specs.Told as spec
-use Rattle.id_pool.specs.Ids.{version_of}
-use Rattle.id_pool.specs.Ranges.{Slot, changed, look}
 use Rattle.sim_run.specs.declared.ticket.Ticket.{Ticket}
 use Rattle.sim_run.specs.declared.state.Replay.{Replay}
-use Rattle.sim_run.specs.Slots.{join, join_says}
 use Rattle.sim_run.specs.Desk.{standings, IsReady, replay_of}
 use Rattle.sim_run.proofs.Steps.{Follows}
-use Rattle.sim_run.proofs.JoinSteps.{JoinFollows, moment_or, tells_or, join-moved, join-full, join-absent, join-idle}
+use Rattle.sim_run.proofs.JoinSteps.{JoinFollows, join-moved, join-full, join-absent, join-idle}
 
 -- A join leaves the plain machine's replay after it.
 pub join-replay : (old new : Replay) (call : ℕ) → Follows old.pool new.pool old.calls.entries call (spec.joined old.reached) → new.calls ≡ old.calls

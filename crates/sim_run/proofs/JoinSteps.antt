@@ -1,5 +1,5 @@
 -- A join of a call's slot is a join of the call.
-use Rattle.std.proofs.Common.{◌≡◌, ◌≢◌, ℕ, ◌+◌, ◌-◌, ◌*◌, ◌^◌, ◌<◌, ◌≤◌, inl, inr, ◌==◌, leb, Bool, true, false, nat_eq, List, [], ◌∷◌, length, find, Option, None, Some, ap, sym, refl, ◌∙◌, subst, arith, if◌then◌else◌}
+use Rattle.std.proofs.Common.{◌≡◌, ◌≢◌, ℕ, ◌+◌, ◌-◌, ◌^◌, ◌<◌, ◌≤◌, inl, leb, true, nat_eq, List, [], ◌∷◌, length, find, Option, None, Some, ap, sym, refl, ◌∙◌, subst, arith, if◌then◌else◌}
 use Rattle.std.proofs.lemmas.Bool.{eq-eqb}
 use Rattle.std.proofs.lemmas.Bool.Decides.{nat_tests}
 use Rattle.std.specs.List.{AllByRecursion}
@@ -12,15 +12,15 @@ use Rattle.rpc_model.specs.Machine.{end_of}
 use Rattle.rpc_model.specs.Marks.{Begun, finish, most_marks}
 use Rattle.rpc_model.specs.Told.{Standing, begun, full, told_of, is_call, is_begun, change_first, joined, joined_moment, join_tells, join_end, stand_joined}
 use Rattle.rpc_model.proofs.Once.{finish-call}
-use Rattle.id_pool.specs.Ids.{slot_of, version_of}
-use Rattle.id_pool.specs.Ranges.{Slot, Vacant, Retired, Taken, Range, Seen, Nothing, Unlocked, seen, seen_in, look, slot_at, change, change_at, changed, vacated, left_by}
+use Rattle.id_pool.specs.Ids.{version_of}
+use Rattle.id_pool.specs.Ranges.{Slot, Vacant, Retired, Taken, Range, Nothing, Unlocked, seen, look, slot_at, change, change_at, changed, left_by}
 use Rattle.id_pool.specs.Answers.{value_says}
 use Rattle.sim_run.specs.declared.ticket.Ticket.{Ticket}
-use Rattle.sim_run.specs.Slots.{IsFirst, visited, finished, join, join_by, join_range, join_says, joined_to}
+use Rattle.sim_run.specs.Slots.{IsFirst, visited, finished, join, join_by, join_says, joined_to}
 use Rattle.sim_run.specs.Desk.{stand, standing_at, standings, IsNumbered, IsKnown, IsSlot, IsSound}
 use Rattle.sim_run.proofs.Changes.{look-at}
 use Rattle.sim_run.proofs.Entries.{change_first-nothing, find-standing, slot-of-all, known-of}
-use Rattle.sim_run.proofs.Steps.{Lives, lives, most, stepped, Follows, finds-in, visited-looks, IsOver, is-over, over-look, over-nothing, over-standing, idle-if}
+use Rattle.sim_run.proofs.Steps.{Lives, lives, most, stepped, Follows, finds-in, visited-looks, is-over, over-look, over-nothing, over-standing, idle-if}
 
 -- the moment and the line of a join, by what it finds in the pool
 abbrev pub moment_or : ℕ → Option (ℕ × Told) → ℕ

@@ -4,15 +4,15 @@ use Rattle.std.specs.Option.{option_map}
 use Rattle.rpc_model.specs.declared.event.End.{End}
 use Rattle.rpc_model.specs.declared.told.Told.TheVariants.{Unended}
 use Rattle.rpc_model.specs.Machine.{end_of}
-use Rattle.rpc_model.specs.Marks.{Begun, finish}
+use Rattle.rpc_model.specs.Marks.{Begun}
 use Rattle.rpc_model.specs.Told.{join_end}
 use Rattle.id_pool.specs.Ids.{slot_of, version_of}
-use Rattle.id_pool.specs.Ranges.{Slot, Vacant, Retired, Taken, Range, Standing, Free, Held, Ended, Seen, Nothing, Unlocked, Locked, Owned, Over, offset, seen, seen_at, seen_in, look, own, owned, owned_at, owned_in, slot_at, changed, locked, locked_by, unlocked, destroyed, destroyed_by, collected, collected_by, held, stands, with_value, left_by}
+use Rattle.id_pool.specs.Ranges.{Slot, Vacant, Retired, Taken, Range, Standing, Free, Held, Ended, Seen, Nothing, Unlocked, Locked, Over, offset, seen, seen_at, seen_in, look, own, owned_at, owned_in, slot_at, changed, locked, locked_by, destroyed, destroyed_by, collected, collected_by, held, stands, with_value}
 use Rattle.id_pool.specs.Answers.{lock_says, value_says}
 use Rattle.id_pool.specs.declared.answers.Lock.TheVariants.{Yes}
 use Rattle.sim_run.specs.declared.slots.Finished.{Finished}
-use Rattle.sim_run.specs.Slots.{IsFirst, visit, visit_by, touch, touch_by, finished, finished_of, joined_to, join_range, join, join_by, join_says}
-use Rattle.sim_run.proofs.Changes.{changed-twice, changed-alike, look-at, seen-taken, visit-changed, slot_at-change}
+use Rattle.sim_run.specs.Slots.{visit, visit_by, touch, touch_by, finished, finished_of, joined_to, join_range, join, join_by, join_says}
+use Rattle.sim_run.proofs.Changes.{changed-twice, changed-alike, look-at, seen-taken, slot_at-change}
 
 -- the id finds this range unlocked, at this offset
 pub record Finds {T : Type 0} (id : ℕ) (slots : List (Slot T)) (r : Range T) (k : ℕ) : Type 0 where

@@ -10,3 +10,4 @@ pub mod Ready
 pub mod Replies
 pub mod JoinReady
 pub mod NewCalls
+pub mod Turns

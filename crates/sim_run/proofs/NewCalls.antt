@@ -1,32 +1,26 @@
 -- A call line of a replay.
-use Rattle.std.proofs.Common.{◌≡◌, ◌≢◌, ℕ, zero, suc, ◌+◌, ◌*◌, ◌/◌, ◌%◌, ◌^◌, ◌<◌, ◌≤◌, ◌==◌, ◌&&◌, leb, nat_le, Bool, true, false, nat_eq, List, [], ◌∷◌, ◌++◌, set, length, slice_get, count_by, Option, None, Some, Ok, Err, ap, sym, refl, ◌∙◌, subst, arith, length-append, is_some, if◌then◌else◌}
-use Rattle.std.proofs.lemmas.Bool.{eqb-false, ne_eqb, eqb-true}
+use Rattle.std.proofs.Common.{◌≡◌, ◌≢◌, ℕ, zero, suc, ◌+◌, ◌*◌, ◌^◌, ◌<◌, ◌≤◌, true, false, nat_eq, List, [], ◌∷◌, ◌++◌, length, slice_get, count_by, Option, None, Some, ap, sym, refl, ◌∙◌, subst, arith, is_some, if◌then◌else◌}
+use Rattle.std.proofs.lemmas.Bool.{eqb-false, ne_eqb}
 use Rattle.std.proofs.lemmas.Bool.Decides.{nat_tests}
-use Rattle.std.proofs.lemmas.List.{append-nil}
-use Rattle.std.specs.declared.result.Result.{Result}
+use Rattle.std.proofs.lemmas.Map.Keys.{IsDistinct-head, IsDistinct-tail}
 use Rattle.std.specs.List.{IsDistinct, AllByRecursion}
 use Rattle.std.specs.Map.{keys_of, lookup}
 use Rattle.std.specs.Option.{option_map}
-use Rattle.rpc_model.specs.declared.chan.LeafChan.{LeafChan}
 use Rattle.rpc_model.specs.declared.script.Script.{Script}
-use Rattle.rpc_model.specs.declared.told.Told.{Told}
-use Rattle.rpc_model.specs.Plan.{Plan, leaf_plan}
+use Rattle.rpc_model.specs.Plan.{Plan}
 use Rattle.rpc_model.specs.Marks.{Begun, begin}
 use Rattle.rpc_model.specs.declared.told.Told.TheVariants.{Full as TellsFull}
 use Rattle.rpc_model.specs.Told as spec
 use Rattle.rpc_model.specs.Told.{begun, full}
 use Rattle.id_pool.specs.Ids.{make_id, slot_of, version_of}
 use Rattle.id_pool.proofs.Ids.{slot_of-make_id, version_of-make_id, make_id-plus}
-use Rattle.id_pool.specs.Ranges.{Slot, Vacant, Taken, Range, is_width, lowest, created, created_at, change, fresh, slot_at}
-use Rattle.id_pool.specs.Answers.{create_says, create_at}
-use Rattle.id_pool.specs.declared.answers.Refused.{Refused}
-use Rattle.id_pool.specs.declared.answers.Refused.TheVariants.{BadRange, Full}
+use Rattle.id_pool.specs.Ranges.{Slot, Vacant, Taken, is_width, lowest, created, created_at, change, fresh, slot_at}
 use Rattle.link_core.specs.Outstanding.{is_outstanding, call_of}
 use Rattle.sim_run.specs.declared.ticket.Ticket.{Ticket}
 use Rattle.sim_run.specs.declared.state.Replay.{Replay}
 use Rattle.sim_run.specs.Link.{Link}
 use Rattle.sim_run.specs.Wires.{IsChangedAt, sent}
-use Rattle.sim_run.specs.Desk.{standings, is_taken, IsSlot, IsSound, IsPast, IsPastIn, IsWire, IsOn, IsReady, replay_of}
+use Rattle.sim_run.specs.Desk.{standings, IsSlot, IsPast, IsPastIn, IsWire, IsOn, IsReady, replay_of}
 use Rattle.sim_run.proofs.Entries.{slot-of-all}
 use Rattle.sim_run.proofs.Begins.{Joined, lowest-at, all-taken, not-all-taken, call-begins, full-begins, All-snoc, All-weaken}
 use Rattle.sim_run.proofs.Ready.{wires-past}
@@ -210,3 +204,14 @@ full-after old new script moment call text p' o planned ready none pool reached 
 pub full-tells : (old : Replay) (script : Script) (call : ℕ) (o : Option Plan) (p' : Plan) → o ≡ Some p' → IsReady script old → lowest old.pool ≡ None → spec.call_tells (spec.is_full script (replay_of old)) call o ≡ TellsFull call ∷ []
 full-tells old script call o p' planned ready none =
     ap (spec.call_tells (spec.is_full script (replay_of old)) call) planned ∙ ap (λ v. spec.new_tells v call) (is-full script old ready none)
+
+-- A number that comes after all others isn't theirs.
+pub absent : (entries : List (ℕ × Option Ticket)) (call : ℕ) (rest : List ℕ) → IsDistinct nat_eq (keys_of entries ++ call ∷ rest) → lookup (nat_eq call) entries ≡ None
+absent [] call rest d = refl
+absent ((number, o) ∷ xs) call rest d =
+    let differ : nat_eq number call ≡ false = behind (keys_of xs) call rest number (IsDistinct-head nat_eq number (keys_of xs ++ call ∷ rest) d) in
+    ap (λ b. if b then Some o else lookup (nat_eq call) xs) (ne_eqb call number (λ e. eqb-false number call differ (sym e))) ∙ absent xs call rest (IsDistinct-tail nat_eq number (keys_of xs ++ call ∷ rest) d)
+  where
+    behind : (ks : List ℕ) (call : ℕ) (rest : List ℕ) (number : ℕ) → AllByRecursion (λ y. nat_eq number y ≡ false) (ks ++ call ∷ rest) → nat_eq number call ≡ false
+    behind [] call rest number h = h.0
+    behind (k ∷ ks) call rest number h = behind ks call rest number h.1

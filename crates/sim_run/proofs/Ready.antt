@@ -1,21 +1,21 @@
 -- A replay between two lines: what an event and a join of a call leave of it.
-use Rattle.std.proofs.Common.{◌≡◌, ◌≢◌, ℕ, zero, suc, ◌+◌, ◌*◌, ◌^◌, ◌<◌, ◌≤◌, nat_eq, List, [], ◌∷◌, ◌++◌, length, count_by, find, Option, None, Some, ap, sym, refl, ◌∙◌, subst, arith, inl, inr}
+use Rattle.std.proofs.Common.{◌≡◌, ◌≢◌, ℕ, zero, suc, ◌+◌, ◌≤◌, nat_eq, List, [], length, count_by, Option, None, Some, ap, sym, refl, ◌∙◌, subst, arith}
 use Rattle.std.specs.List.{IsDistinct, AllByRecursion}
-use Rattle.std.specs.Map.{keys_of, lookup}
+use Rattle.std.specs.Map.{lookup}
 use Rattle.rpc_model.specs.declared.event.Event.{Event}
 use Rattle.rpc_model.specs.declared.script.Script.{Script}
 use Rattle.rpc_model.specs.Marks.{Begun}
 use Rattle.rpc_model.specs.Told as spec
-use Rattle.id_pool.specs.Ids.{slot_of, version_of}
+use Rattle.id_pool.specs.Ids.{version_of}
 use Rattle.id_pool.specs.Ranges.{Slot, Vacant, changed, opened}
 use Rattle.sim_run.specs.declared.ticket.Ticket.{Ticket}
 use Rattle.sim_run.specs.declared.state.Replay.{Replay}
 use Rattle.sim_run.specs.Link.{Link}
 use Rattle.sim_run.specs.Slots.{visit, evented}
-use Rattle.sim_run.specs.Desk.{standings, IsKnown, is_taken, IsSlot, IsSound, IsPast, IsWire, IsOn, IsReady, replay_of, ticket_in}
+use Rattle.sim_run.specs.Desk.{is_taken, IsSlot, IsSound, IsPast, IsWire, IsReady, replay_of, ticket_in}
 use Rattle.sim_run.proofs.Entries.{count-cons, known-of}
 use Rattle.sim_run.proofs.Steps.{Follows, event-moved, event-nothing}
-use Rattle.sim_run.proofs.Begins.{All-snoc, All-weaken}
+use Rattle.sim_run.proofs.Begins.{All-weaken}
 
 -- ---- a new replay
 

@@ -1,24 +1,24 @@
 -- A reply comes to its attempt by the attempt's id alone.
-use Rattle.std.proofs.Common.{◌≡◌, ◌≢◌, ℕ, zero, suc, ◌+◌, ◌*◌, ◌/◌, ◌%◌, ◌^◌, ◌<◌, ◌≤◌, ◌==◌, ◌&&◌, nat_lt, Bool, true, false, nat_eq, List, [], ◌∷◌, ◌++◌, set, length, slice_get, slice_index, Option, None, Some, ap, sym, refl, ◌∙◌, subst, arith, add-one, if◌then◌else◌, inl, inr}
+use Rattle.std.proofs.Common.{◌≡◌, ℕ, zero, suc, ◌+◌, ◌*◌, ◌/◌, ◌^◌, ◌<◌, ◌≤◌, ◌==◌, ◌&&◌, nat_lt, Bool, true, false, nat_eq, List, [], ◌∷◌, set, length, slice_get, Option, None, Some, ap, sym, refl, ◌∙◌, subst, arith, add-one, if◌then◌else◌, inl, inr}
 use Rattle.std.proofs.lemmas.Bool.{eqb-true}
 use Rattle.std.proofs.lemmas.Bool.Decides.{nat_tests}
 use Rattle.std.specs.List.{AllByRecursion}
-use Rattle.std.specs.Map.{keys_of, lookup, remove_entry}
+use Rattle.std.specs.Map.{lookup}
 use Rattle.rpc_model.specs.declared.event.Event.TheVariants as event
 use Rattle.rpc_model.specs.declared.script.Script.{Script}
 use Rattle.rpc_model.specs.Marks.{Begun}
 use Rattle.rpc_model.specs.Told as spec
-use Rattle.id_pool.specs.Ids.{one_less, slot_of, version_of}
-use Rattle.id_pool.specs.Ranges.{Slot, Vacant, Retired, Taken, Unlocked, Nothing, seen, look, slot_at, changed}
+use Rattle.id_pool.specs.Ids.{slot_of, version_of}
+use Rattle.id_pool.specs.Ranges.{Slot, Vacant, Retired, Taken, Unlocked, Nothing, look, slot_at, changed}
 use Rattle.id_pool.specs.Answers.{find_says, value_says}
 use Rattle.link_core.specs.Outstanding.{without}
 use Rattle.sim_run.specs.declared.ticket.Ticket.{Ticket}
 use Rattle.sim_run.specs.declared.state.Replay.{Replay}
 use Rattle.sim_run.specs.declared.wire.Reply.{Reply}
 use Rattle.sim_run.specs.Link.{Link}
-use Rattle.sim_run.specs.Wires.{IsChangedAt, sent, received}
+use Rattle.sim_run.specs.Wires.{IsChangedAt, received}
 use Rattle.sim_run.specs.Slots.{visit, visit_by, evented, delivered, delivered_at}
-use Rattle.sim_run.specs.Desk.{attempt_id, IsOf, IsOfSlot, IsKnown, IsSlot, IsSound, IsPast, IsWire, IsOn, IsReady, ticket_in}
+use Rattle.sim_run.specs.Desk.{attempt_id, IsOf, IsOfSlot, IsSlot, IsSound, IsPast, IsWire, IsReady, ticket_in}
 use Rattle.sim_run.proofs.Changes.{look-at}
 use Rattle.sim_run.proofs.Apart.{high_half}
 use Rattle.sim_run.proofs.Entries.{found_if, slot-of-all, known-of}

@@ -1,24 +1,22 @@
 -- What an event and a join make of the slots is what the plain machine makes of the calls.
-use Rattle.std.proofs.Common.{◌≡◌, ◌≢◌, ℕ, zero, suc, ◌+◌, ◌-◌, ◌*◌, ◌/◌, ◌%◌, ◌^◌, ◌<◌, ◌≤◌, ◌⊎◌, inl, inr, leb, ltb, ◌&&◌, ◌==◌, Bool, true, false, cond, nat_eq, List, [], ◌∷◌, map, length, slice_get, find, count_by, Option, None, Some, ap, sym, refl, ◌∙◌, subst, arith, if◌then◌else◌}
+use Rattle.std.proofs.Common.{◌≡◌, ◌≢◌, ℕ, zero, suc, ◌+◌, ◌-◌, ◌*◌, ◌/◌, ◌^◌, ◌<◌, ◌≤◌, inl, inr, leb, ltb, ◌&&◌, true, false, nat_eq, List, [], ◌∷◌, length, slice_get, find, count_by, Option, None, Some, ap, sym, refl, ◌∙◌, subst, arith, if◌then◌else◌}
 use Rattle.std.proofs.lemmas.Bool.Decides.{nat_tests}
 use Rattle.std.specs.List.{AllByRecursion}
 use Rattle.std.specs.Map.{lookup}
 use Rattle.std.specs.Option.{option_map}
-use Rattle.rpc_model.specs.declared.event.End.{End}
 use Rattle.rpc_model.specs.declared.event.Event.{Event}
-use Rattle.rpc_model.specs.Machine.{end_of}
 use Rattle.rpc_model.specs.Marks.{Begun}
-use Rattle.rpc_model.specs.Told.{Standing, begun, full, told_of, number_of, is_call, is_begun, change_first, event_after, joined}
+use Rattle.rpc_model.specs.Told.{Standing, begun, full, told_of, is_call, is_begun, change_first, event_after}
 use Rattle.rpc_model.proofs.Once.{event-number}
 use Rattle.id_pool.specs.Ids.{one_less, slot_of, version_of}
-use Rattle.id_pool.specs.Ranges.{Slot, Vacant, Retired, Taken, Range, Standing as RangeStanding, Free, Held, Ended, Seen, Nothing, Unlocked, Locked, offset, seen, seen_at, seen_in, look, slot_at, change, change_at, changed, vacated, left_by}
-use Rattle.id_pool.specs.Answers.{find_says, value_says}
+use Rattle.id_pool.specs.Ranges.{Slot, Vacant, Retired, Taken, Range, Free, Nothing, Unlocked, offset, seen, seen_at, seen_in, look, slot_at, change, change_at, changed}
+use Rattle.id_pool.specs.Answers.{value_says}
 use Rattle.sim_run.specs.declared.ticket.Ticket.{Ticket}
-use Rattle.sim_run.specs.Slots.{visit, visit_by, visited, evented, finished, join, join_by, join_range, joined_to}
-use Rattle.sim_run.specs.Desk.{stand, standing_at, standing, standings, firsts, IsOf, IsOfSlot, IsNumbered, IsKnown, is_taken, IsSlot, IsSound, IsPast}
+use Rattle.sim_run.specs.Slots.{visit, visit_by, visited, evented}
+use Rattle.sim_run.specs.Desk.{stand, standing_at, standings, IsOf, IsOfSlot, IsNumbered, IsKnown, is_taken, IsSlot, IsSound, IsPast}
 use Rattle.sim_run.proofs.Changes.{look-at, seen-taken, changed-nothing}
 use Rattle.sim_run.proofs.Apart.{same_id, IsNext, IsAside, StandsAside, stands-aside, past-change, length-change}
-use Rattle.sim_run.proofs.Entries.{one, Moved, moved, find-standing, change_first-nothing, count-change_first, count-change, All-change, slot-of-all, known-of}
+use Rattle.sim_run.proofs.Entries.{one, moved, find-standing, change_first-nothing, count-change_first, count-change, All-change, slot-of-all, known-of}
 
 -- the ids of a call that has begun and wasn't told: where their range is
 pub record Lives (slots : List (Slot Begun)) (range : Ticket) (b : Begun) : Type 0 where

@@ -1,11 +1,10 @@
 -- A stream of which every frame was taken hands out the next whole frame.
-use Rattle.std.proofs.Common.{◌≡◌, ◌≢◌, ℕ, ◌+◌, ◌*◌, ◌-◌, ◌/◌, ◌%◌, ◌^◌, ◌<◌, ◌≤◌, min, ℤ, pos, List, [], ◌∷◌, ◌++◌, length, All, Option, None, Some, Result, Ok, Err, ap, sym, refl, ◌∙◌, subst, arith, length-append, zero, suc, nat_lt, Bool, true, false, if◌then◌else◌}
+use Rattle.std.proofs.Common.{◌≡◌, ◌≢◌, ℕ, ◌+◌, ◌*◌, ◌/◌, ◌%◌, ◌^◌, ◌<◌, ◌≤◌, ℤ, pos, List, [], ◌∷◌, ◌++◌, length, All, None, Some, Result, Ok, Err, ap, sym, refl, ◌∙◌, arith, length-append, zero, suc, nat_lt, Bool, true, false, if◌then◌else◌}
 use Rattle.std.proofs.lemmas.List.{append-nil}
 use Rattle.std.proofs.lemmas.List.Elements.{All-cons, All-nil}
-use Rattle.std.specs.Int.{w32, w64, cast_unsigned}
-use Rattle.std.specs.Int.RustNames.{FitsSigned}
+use Rattle.std.specs.Int.{w64, cast_unsigned}
 use Rattle.rpc_meta.specs.declared.meta.ResponseMeta.{ResponseMeta}
-use Rattle.rpc_meta.specs.Meta.Spelling.{groups_of, number_bytes, text_bytes, if_present, response_bytes, meta_bytes, IsWritable}
+use Rattle.rpc_meta.specs.Meta.Spelling.{groups_of, number_bytes, response_bytes, meta_bytes}
 use Rattle.rpc_meta.proofs.Sizes.{length-text_bytes, response_size, meta_size}
 use Rattle.prpc_frames.specs.declared.frame.Frame.{Frame}
 use Rattle.prpc_frames.specs.declared.fault.FeedFault.{FeedFault}

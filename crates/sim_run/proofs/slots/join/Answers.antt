@@ -1,13 +1,10 @@
 -- A join finds the call, takes its marks, and lets its range go or ends it.
-use Rattle.std.proofs.Common.{◌≡◌, Some, sym, ap, ◌∙◌, true, false}
-use Rattle.std.specs.Option.{option_map}
-use Rattle.rpc_model.specs.Marks.{Begun}
+use Rattle.std.proofs.Common.{◌≡◌, sym, ap, ◌∙◌}
 use Rattle.id_pool.specs.Ranges.{look}
 use Rattle.id_pool.specs.Answers.{collect_says}
-use Rattle.id_pool.specs.declared.answers.Collect.TheVariants.{Value}
-use Rattle.sim_run.specs.Slots.{finished, finished_of}
+use Rattle.sim_run.specs.Slots.{finished}
 use Rattle.sim_run.proofs.Changes.{visit-changed}
-use Rattle.sim_run.proofs.Joins.{finds, finds-look, finish-says, ending, ending-own, join-over, join-open, says-nothing, join-nothing, says-open, says-over, joins, joins-open, joins-over, not-true, not-false}
+use Rattle.sim_run.proofs.Joins.{finds, finds-look, finish-says, ending-own, join-over, join-open, says-nothing, join-nothing, says-open, says-over, joins, joins-open, joins-over, not-true, not-false}
 use Rattle.sim_run.proofs.slots.join.Goals as goal
 
 pub returns-in_default : goal.returns-in_default

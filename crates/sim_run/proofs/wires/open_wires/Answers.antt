@@ -1,5 +1,5 @@
 -- One more wire.
-use Rattle.std.proofs.Common.{ap, [], ◌∷◌, length, length-append, arith, ◌∙◌}
+use Rattle.std.proofs.Common.{[], ◌∷◌, length-append, arith}
 use Rattle.sim_run.specs.Desk.{IsWire}
 use Rattle.sim_run.proofs.Begins.{All-snoc}
 use Rattle.sim_run.proofs.wires.open_wires.Goals as goal

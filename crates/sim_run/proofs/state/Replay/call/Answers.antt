@@ -1,7 +1,6 @@
 -- The call takes the lowest vacant slot, or finds none.
-use Rattle.std.proofs.Common.{◌≡◌, ◌+◌, ◌≤◌, Some, sym, ap, refl, ◌∙◌, arith, [], ◌∷◌, ◌++◌, List}
+use Rattle.std.proofs.Common.{◌≡◌, ◌+◌, sym, ap, ◌∙◌, arith}
 use Rattle.std.proofs.lemmas.List.{append-nil}
-use Rattle.rpc_model.specs.declared.told.Told.{Told}
 use Rattle.rpc_model.specs.Plan.{leaf_plan}
 use Rattle.rpc_model.specs.Marks.{begin}
 use Rattle.id_pool.specs.Ranges.{created}

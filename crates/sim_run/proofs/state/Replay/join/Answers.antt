@@ -1,11 +1,9 @@
 -- A join tells what it finds.
-use Rattle.std.proofs.Common.{◌≡◌, ◌∷◌, ◌++◌, [], List, Some, None, sym, refl, ap, ◌∙◌}
+use Rattle.std.proofs.Common.{◌∷◌, [], sym, refl, ap, ◌∙◌}
 use Rattle.std.proofs.lemmas.List.{append-nil}
-use Rattle.rpc_model.specs.declared.told.Told.{Told}
 use Rattle.rpc_model.specs.Told as spec
-use Rattle.sim_run.proofs.Steps.{Follows}
 use Rattle.sim_run.proofs.Ready.{ready-follows}
-use Rattle.sim_run.proofs.JoinSteps.{JoinFollows, moment_or, tells_or, join-first}
+use Rattle.sim_run.proofs.JoinSteps.{moment_or, tells_or, join-first}
 use Rattle.sim_run.proofs.JoinReady.{join-replay, joins-absent, joins-full, joins-ticket}
 use Rattle.sim_run.proofs.state.Replay.join.Goals as goal
 

@@ -1,5 +1,5 @@
 -- Nothing has happened yet.
-use Rattle.std.proofs.Common.{◌∙◌, ap, length, sym}
+use Rattle.std.proofs.Common.{◌∙◌, ap, length}
 use Rattle.sim_run.proofs.Ready.{opened-sound, opened-length}
 use Rattle.sim_run.proofs.state.Replay.open.Goals as goal
 

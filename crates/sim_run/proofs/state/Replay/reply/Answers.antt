@@ -1,9 +1,8 @@
 -- The reply comes to the attempt that its id finds.
-use Rattle.std.proofs.Common.{◌≡◌, ◌+◌, ◌<◌, Some, sym, refl, ap, subst, ◌∙◌, arith, length}
+use Rattle.std.proofs.Common.{Some, sym, refl, ◌∙◌, arith, length}
 use Rattle.rpc_model.specs.declared.event.Event.TheVariants as event
 use Rattle.rpc_model.specs.Told as spec
 use Rattle.sim_run.specs.Desk.{IsOn}
-use Rattle.sim_run.proofs.Steps.{Follows}
 use Rattle.sim_run.proofs.Ready.{ready-follows, event-replay, no-event, some_ticket}
 use Rattle.sim_run.proofs.Replies.{entry-of, ticket-low, names, reply-moved, received-length, received-waits}
 use Rattle.sim_run.proofs.state.Replay.reply.Goals as goal

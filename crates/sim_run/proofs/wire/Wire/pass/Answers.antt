@@ -1,8 +1,7 @@
 -- The frame that was written is the one that comes in.
-use Rattle.std.proofs.Common.{◌≡◌, ◌∷◌, ◌++◌, [], length, ap, sym, ◌∙◌, arith, ◌<◌, ◌^◌, ◌≢◌, List}
-use Rattle.prpc_frames.specs.Stream.Reading.{later, before}
-use Rattle.prpc_frames.specs.Stream.Spelling.{frame_bytes, all_bytes}
-use Rattle.sim_run.proofs.Streams.{holding, feed-idle, feed-taken, handed-out}
+use Rattle.std.proofs.Common.{◌≡◌, ◌++◌, ap, ◌∙◌, arith, List}
+use Rattle.prpc_frames.specs.Stream.Spelling.{frame_bytes}
+use Rattle.sim_run.proofs.Streams.{feed-idle, feed-taken, handed-out}
 use Rattle.sim_run.proofs.wire.Wire.pass.Goals as goal
 
 pub invariant_of-self : goal.invariant_of-self

@@ -1,5 +1,5 @@
 -- A reply fits a frame.
-use Rattle.std.proofs.Common.{◌≡◌, length, ap, sym, ◌∙◌, arith, ◌≤◌}
+use Rattle.std.proofs.Common.{◌≡◌, length, ap, ◌∙◌, arith, ◌≤◌}
 use Rattle.sim_run.proofs.Streams.{reply-fits}
 use Rattle.sim_run.proofs.wire.Wire.receive.Goals as goal
 
