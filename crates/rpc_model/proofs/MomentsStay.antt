@@ -8,7 +8,7 @@ use Rattle.rpc_model.specs.declared.event.Event.{Event}
 use Rattle.rpc_model.specs.declared.event.Event.TheVariants as event
 use Rattle.rpc_model.specs.declared.script.Script.{Script}
 use Rattle.rpc_model.specs.declared.script.Act.{Act}
-use Rattle.rpc_model.specs.declared.script.Act.TheVariants.{Call, Cancel, Reply, Tick, Join}
+use Rattle.rpc_model.specs.declared.script.Act.TheVariants.{Call, Cancel, Reply, Lose, Tick, Join}
 use Rattle.rpc_model.specs.Fits.{IsPlain, IsPlainLeaf, IsWait, moment_of}
 use Rattle.rpc_model.specs.Leaf.{leaf_step}
 use Rattle.rpc_model.specs.Plan.{Plan, leaf_plan, plan}
@@ -183,5 +183,7 @@ after-by b script replay (Call at call chan text) plain early by' =
 after-by b script replay (Cancel at call) plain early by' = call_event-by b replay (max replay.reached at) call event.Cancel (let m = by'.moment in omega arith) by'
 after-by b script replay (Reply at call node attempt code text) plain early by' =
     call_event-by b replay (max replay.reached at) call (event.Reply node attempt code text) (let m = by'.moment in omega arith) by'
+after-by b script replay (Lose at call node attempt code) plain early by' =
+    call_event-by b replay (max replay.reached at) call (event.Lost node attempt code) (let m = by'.moment in omega arith) by'
 after-by b script replay (Tick at) plain early by' = record { moment = (let m = by'.moment in omega arith); marks = calls-later b replay.calls by'.marks }
 after-by b script replay (Join call) plain early by' = call_join-by b replay call by'

@@ -7,7 +7,7 @@ use Rattle.rpc_model.specs.declared.event.Event.{Event}
 use Rattle.rpc_model.specs.declared.event.Event.TheVariants as event
 use Rattle.rpc_model.specs.declared.script.Script.{Script}
 use Rattle.rpc_model.specs.declared.script.Act.{Act}
-use Rattle.rpc_model.specs.declared.script.Act.TheVariants.{Call, Cancel, Reply, Tick, Join}
+use Rattle.rpc_model.specs.declared.script.Act.TheVariants.{Call, Cancel, Reply, Lose, Tick, Join}
 use Rattle.rpc_model.specs.Plan.{Plan, plan}
 use Rattle.rpc_model.specs.Machine.{Mark, end_of}
 use Rattle.rpc_model.specs.Marks.{Begun, least_mark, take_mark, weave_at_most, weave_least, most_marks, finish_at_most, finish_least, finish}
@@ -143,6 +143,7 @@ unfolding after
 silent-after c script replay (Call at call chan text) h = silent-call_after c script replay (max replay.reached at) call text (plan script.chans chan call) h
 silent-after c script replay (Cancel at call) h = silent-call_event c replay (max replay.reached at) call event.Cancel h
 silent-after c script replay (Reply at call node attempt code text) h = silent-call_event c replay (max replay.reached at) call (event.Reply node attempt code text) h
+silent-after c script replay (Lose at call node attempt code) h = silent-call_event c replay (max replay.reached at) call (event.Lost node attempt code) h
 silent-after c script replay (Tick at) h = h
 silent-after c script replay (Join call) h = silent-call_join c replay call h
 
@@ -220,6 +221,7 @@ unfolding LineTells after tells
 line-tells c script replay (Call at call chan text) = inl (call_tells-none c (is_full script replay) call (plan script.chans chan call))
 line-tells c script replay (Cancel at call) = inl refl
 line-tells c script replay (Reply at call node attempt code text) = inl refl
+line-tells c script replay (Lose at call node attempt code) = inl refl
 line-tells c script replay (Tick at) = inl refl
 line-tells c script replay (Join call) = join_line-tells c script replay call (join-tells c replay.reached (find (is_call call) replay.calls))
 
@@ -235,6 +237,7 @@ unfolding tells
 silent-tells c script replay (Call at call chan text) h = call_tells-none c (is_full script replay) call (plan script.chans chan call)
 silent-tells c script replay (Cancel at call) h = refl
 silent-tells c script replay (Reply at call node attempt code text) h = refl
+silent-tells c script replay (Lose at call node attempt code) h = refl
 silent-tells c script replay (Tick at) h = refl
 silent-tells c script replay (Join call) h = join_line-silent c replay call h (equal_or_not c call) (join-tells c replay.reached (find (is_call call) replay.calls))
 

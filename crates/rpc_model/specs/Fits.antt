@@ -6,13 +6,14 @@ use Rattle.rpc_model.specs.declared.chan.Chan.TheVariants as chan
 use Rattle.rpc_model.specs.declared.chan.LeafChan.{LeafChan}
 use Rattle.rpc_model.specs.declared.script.Script.{Script}
 use Rattle.rpc_model.specs.declared.script.Act.{Act}
-use Rattle.rpc_model.specs.declared.script.Act.TheVariants.{Call, Cancel, Reply, Tick, Join}
+use Rattle.rpc_model.specs.declared.script.Act.TheVariants.{Call, Cancel, Reply, Lose, Tick, Join}
 
 -- the moment that a line names
 abbrev pub moment_of : Act → ℕ
 moment_of (Call at call chan text) = at
 moment_of (Cancel at call) = at
 moment_of (Reply at call node attempt code text) = at
+moment_of (Lose at call node attempt code) = at
 moment_of (Tick at) = at
 moment_of (Join call) = 0
 
@@ -24,6 +25,7 @@ abbrev pub IsAct : ℕ → Act → Type 0
 IsAct chans (Call at call chan text) = (chan < chans) × (length text ≤ 60000)
 IsAct chans (Cancel at call) = Unit {0}
 IsAct chans (Reply at call node attempt code text) = (code ≤ 65535) × (length text ≤ 60000)
+IsAct chans (Lose at call node attempt code) = Unit {0}
 IsAct chans (Tick at) = Unit {0}
 IsAct chans (Join call) = Unit {0}
 
@@ -32,6 +34,7 @@ abbrev pub begins : Act → List ℕ → List ℕ
 begins (Call at call chan text) calls = call ∷ calls
 begins (Cancel at call) calls = calls
 begins (Reply at call node attempt code text) calls = calls
+begins (Lose at call node attempt code) calls = calls
 begins (Tick at) calls = calls
 begins (Join call) calls = calls
 

@@ -1,13 +1,13 @@
 -- What each line of a script says, where it is accepted. This project's own choice.
-use Rattle.std.specs.Prelude.{ℕ, ◌+◌, ◌-◌, ◌*◌, ◌^◌, Bool, true, false, ◌==◌, ◌&&◌, nat_lt, nat_le, List, [], ◌∷◌, ◌++◌, length, find, position, unwrap_or, is_none, Option, None, Some, codes, bytes_eq, if◌then◌else◌}
-use Rattle.std.specs.List.{slice_split}
+use Rattle.std.specs.Prelude.{ℕ, ◌+◌, ◌-◌, ◌*◌, ◌^◌, Bool, true, false, ◌==◌, ◌&&◌, nat_lt, nat_le, List, [], ◌∷◌, ◌++◌, length, find, position, unwrap_or, is_none, map, Option, None, Some, codes, bytes_eq, if◌then◌else◌}
+use Rattle.std.specs.List.{slice_split, list_all}
 use Rattle.std.specs.Option.{option_map}
 use Rattle.rpc_model.specs.declared.chan.Chan.{Chan}
 use Rattle.rpc_model.specs.declared.chan.Chan.TheVariants as chan
 use Rattle.rpc_model.specs.declared.script.Mode.{Mode}
 use Rattle.rpc_model.specs.declared.script.Mode.TheVariants.{Sim, Live}
 use Rattle.rpc_model.specs.declared.script.Act.{Act}
-use Rattle.rpc_model.specs.declared.script.Act.TheVariants.{Call, Cancel, Reply, Tick, Join}
+use Rattle.rpc_model.specs.declared.script.Act.TheVariants.{Call, Cancel, Reply, Lose, Tick, Join}
 use Rattle.rpc_model.specs.Plan.{Plan, leaf_plan, plan, possible_attempts}
 use Rattle.rpc_model.specs.Words.{◌>>=◌, guard, all_within, number, is_name, text, number_option, wait_option, attempt_word}
 
@@ -53,8 +53,14 @@ mention_at servers name (Some at) = servers
 abbrev pub mention : List (List ℕ) → List ℕ → List (List ℕ)
 mention servers name = mention_at servers name (index_of servers name)
 
-abbrev pub server_number : List (List ℕ) → List ℕ → ℕ
-server_number servers name = unwrap_or (index_of servers name) (length servers)
+-- each of these servers, in their order
+abbrev pub mention_all : List (List ℕ) → List (List ℕ) → List (List ℕ)
+mention_all servers [] = servers
+mention_all servers (name ∷ names) = mention_all (mention servers name) names
+
+-- the numbers of these servers among those that were mentioned
+abbrev pub numbers_of : List (List ℕ) → List (List ℕ) → List ℕ
+numbers_of servers names = map (λ name. unwrap_or (index_of servers name) 0) names
 
 -- `open N`: before every call line, and once
 unfoldable pub open_line : Before → List ℕ → Option Before
@@ -69,27 +75,31 @@ with_event before act = do
   _ ← guard (nat_lt before.events 400000)
   Some (record before { acts = before.acts ++ act ∷ []; events = before.events + 1 })
 
--- one more plain channel, with one server
-abbrev pub with_leaf : Before → List ℕ → List ℕ → ℕ → Option ℕ → Option ℕ → Before
-with_leaf before name server retry backup timeout =
+-- one more plain channel, over these servers
+abbrev pub with_leaf : Before → List ℕ → List (List ℕ) → ℕ → Option ℕ → Option ℕ → Before
+with_leaf before name names retry backup timeout =
     record before {
       names = before.names ++ name ∷ [];
-      servers = mention before.servers server;
-      chans = before.chans ++ chan.Leaf (record { servers = server_number before.servers server ∷ []; retry = retry; backup = backup; timeout = timeout }) ∷ [];
+      servers = mention_all before.servers names;
+      chans = before.chans ++ chan.Leaf (record { servers = numbers_of (mention_all before.servers names) names; retry = retry; backup = backup; timeout = timeout }) ∷ [];
     }
 
--- `leaf NAME SERVER retry=0 backup=-1 timeout=T`
+-- 1 to 16 names with commas between them
+unfoldable pub server_names : List ℕ → Option (List (List ℕ))
+server_names word = let names = slice_split (λ b. b == 44) word in if nat_le (length names) 16 && list_all is_name names then Some names else None
+
+-- `leaf NAME SERVERS retry=0 backup=-1 timeout=T`
 unfoldable pub leaf_line : Before → List ℕ → List ℕ → List ℕ → List ℕ → List ℕ → Option Before
-leaf_line before name server retry backup timeout = do
+leaf_line before name servers retry backup timeout = do
   _ ← guard (is_name name && is_none (index_of before.names name))
-  _ ← guard (is_name server)
+  names ← server_names servers
   retries ← number_option (codes "retry=") 0 100 retry
   backup_wait ← wait_option (codes "backup=") backup
   timeout_wait ← wait_option (codes "timeout=") timeout
   _ ← guard (retries == 0 && is_none backup_wait)
   _ ← guard (nat_lt (length before.names) 1000)
-  _ ← guard (nat_le (length (mention before.servers server)) 16)
-  Some (with_leaf before name server retries backup_wait timeout_wait)
+  _ ← guard (nat_le (length (mention_all before.servers names)) 16)
+  Some (with_leaf before name names retries backup_wait timeout_wait)
 
 abbrev pub attempts_of : Option Plan → ℕ
 attempts_of None = 0
@@ -146,6 +156,18 @@ reply_line before at call attempt code words = do
   payload ← text words
   with_event before (Reply m c named.0 named.1 n payload)
 
+-- `at T lose C NODE#ATTEMPT CODE`
+unfoldable pub lose_line : Before → List ℕ → List ℕ → List ℕ → List ℕ → Option Before
+lose_line before at call attempt code = do
+  _ ← guard (is_sim before.mode)
+  m ← moment at
+  c ← call_number call
+  chan ← chan_of before c
+  named ← attempt_word attempt
+  _ ← guard (has_attempt (plan before.chans chan c) named.0 named.1)
+  n ← number 1 65535 code
+  with_event before (Lose m c named.0 named.1 n)
+
 -- `at T cancel C`
 unfoldable pub cancel_line : Before → List ℕ → List ℕ → Option Before
 cancel_line before at call = do
@@ -185,6 +207,7 @@ abbrev pub six_words : Before → List ℕ → List ℕ → List ℕ → List �
 six_words before kind a b c d e =
     if bytes_eq kind (codes "leaf") then leaf_line before a b c d e
     else if bytes_eq kind (codes "at") && bytes_eq b (codes "call") then call_line before a c d e
+    else if bytes_eq kind (codes "at") && bytes_eq b (codes "lose") then lose_line before a c d e
     else None
 
 abbrev pub seven_words : Before → List ℕ → List ℕ → List ℕ → List ℕ → List ℕ → List ℕ → List ℕ → Option Before

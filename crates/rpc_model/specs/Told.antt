@@ -5,7 +5,7 @@ use Rattle.rpc_model.specs.declared.event.Event.{Event}
 use Rattle.rpc_model.specs.declared.event.Event.TheVariants as event
 use Rattle.rpc_model.specs.declared.script.Script.{Script}
 use Rattle.rpc_model.specs.declared.script.Act.{Act}
-use Rattle.rpc_model.specs.declared.script.Act.TheVariants.{Call, Cancel, Reply, Tick, Join}
+use Rattle.rpc_model.specs.declared.script.Act.TheVariants.{Call, Cancel, Reply, Lose, Tick, Join}
 use Rattle.rpc_model.specs.declared.told.Told.{Told}
 use Rattle.rpc_model.specs.declared.told.Told.TheVariants.{Ended, Unended, Full, Gone}
 use Rattle.rpc_model.specs.Plan.{Plan, plan}
@@ -112,6 +112,7 @@ unfoldable pub after : Script → Replay → Act → Replay
 after script replay (Call at call chan text) = call_after script replay (max replay.reached at) call text (plan script.chans chan call)
 after script replay (Cancel at call) = call_event replay (max replay.reached at) call event.Cancel
 after script replay (Reply at call node attempt code text) = call_event replay (max replay.reached at) call (event.Reply node attempt code text)
+after script replay (Lose at call node attempt code) = call_event replay (max replay.reached at) call (event.Lost node attempt code)
 after script replay (Tick at) = record replay { reached = max replay.reached at }
 after script replay (Join call) = call_join replay call
 
@@ -120,6 +121,7 @@ unfoldable pub tells : Script → Replay → Act → List Told
 tells script replay (Call at call chan text) = call_tells (is_full script replay) call (plan script.chans chan call)
 tells script replay (Cancel at call) = []
 tells script replay (Reply at call node attempt code text) = []
+tells script replay (Lose at call node attempt code) = []
 tells script replay (Tick at) = []
 tells script replay (Join call) = join_tells replay.reached (find (is_call call) replay.calls)
 

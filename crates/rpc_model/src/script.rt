@@ -48,6 +48,14 @@ pub enum Act {
         code: u32,
         text: Bytes,
     },
+    /// An attempt of a leaf is lost, for the reason that the code names.
+    Lose {
+        at: u64,
+        call: u32,
+        node: u32,
+        attempt: u32,
+        code: u32,
+    },
     /// Time goes on.
     Tick {
         at: u64,
