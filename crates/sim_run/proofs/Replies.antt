@@ -4,6 +4,7 @@ use Rattle.std.proofs.lemmas.Bool.{eqb-true}
 use Rattle.std.proofs.lemmas.Bool.Decides.{nat_tests}
 use Rattle.std.specs.List.{AllByRecursion}
 use Rattle.std.specs.Map.{lookup}
+use Rattle.rpc_model.specs.declared.event.Event.{Event}
 use Rattle.rpc_model.specs.declared.event.Event.TheVariants as event
 use Rattle.rpc_model.specs.declared.script.Script.{Script}
 use Rattle.rpc_model.specs.Marks.{Begun}
@@ -17,7 +18,7 @@ use Rattle.sim_run.specs.declared.state.Replay.{Replay}
 use Rattle.sim_run.specs.declared.wire.Reply.{Reply}
 use Rattle.sim_run.specs.Link.{Link}
 use Rattle.sim_run.specs.Wires.{IsChangedAt, received}
-use Rattle.sim_run.specs.Slots.{visit, visit_by, evented, delivered, delivered_at}
+use Rattle.sim_run.specs.Slots.{visit, visit_by, evented, brought, brought_to, delivered}
 use Rattle.sim_run.specs.Desk.{attempt_id, IsOf, IsOfSlot, IsSlot, IsSound, IsPast, IsWire, IsReady, ticket_in}
 use Rattle.sim_run.proofs.Changes.{look-at}
 use Rattle.sim_run.proofs.Apart.{high_half}
@@ -80,37 +81,39 @@ names ticket node attempt id e = by (node == 0) (nat_lt (attempt + 1) ticket.wid
     by true false p q e = absurd (cc)
     by false b p q e = absurd (cc)
 
--- ---- the reply's step
+-- ---- the step of what becomes of an attempt
 
-delivered-as : (slots : List (Slot Begun)) (reply : Reply) (moment attempt : ℕ) → find_says (look reply.id slots) ≡ Some (attempt + 1)
-    → delivered reply moment slots ≡ changed (visit (evented (event.Reply 0 attempt reply.code reply.text) moment) (version_of reply.id)) reply.id slots
-delivered-as slots reply moment attempt e = ap (λ o. delivered_at o reply moment slots) (e ∙ ap Some (add-one attempt))
-
--- A reply to an attempt does to the calls what the plain machine does.
-pub reply-moved : (slots : List (Slot Begun)) (entries : List (ℕ × Option Ticket)) (call : ℕ) (ticket : Ticket) (attempt code moment : ℕ) (text : List ℕ) (reply : Reply) → IsSound slots entries → length entries ≤ 500000
-    → lookup (nat_eq call) entries ≡ Some (Some ticket) → attempt + 1 < ticket.width → reply ≡ record { id = ticket.first + (attempt + 1); code = code; text = text }
-    → Follows slots (delivered reply moment slots) entries call (spec.event_after (event.Reply 0 attempt code text) moment)
-reply-moved slots entries call ticket attempt code moment text reply sound few found within is =
-    let said : Reply = record { id = ticket.first + (attempt + 1); code = code; text = text } in
-    let moved = event-moved slots entries call ticket (event.Reply 0 attempt code text) moment (attempt + 1) sound few found within in
-    let same : delivered said moment slots ≡ changed (visit (evented (event.Reply 0 attempt code text) moment) (version_of (ticket.first + (attempt + 1)))) (ticket.first + (attempt + 1)) slots = by (value_says (look ticket.first slots)) refl in
-    rw is (subst (λ after. Follows slots after entries call (spec.event_after (event.Reply 0 attempt code text) moment)) (sym same) moved)
+-- What becomes of an attempt does to the calls what the plain machine does.
+pub brought-moved : (slots : List (Slot Begun)) (entries : List (ℕ × Option Ticket)) (call : ℕ) (ticket : Ticket) (attempt moment id : ℕ) (what : ℕ → Event) → IsSound slots entries → length entries ≤ 500000
+    → lookup (nat_eq call) entries ≡ Some (Some ticket) → attempt + 1 < ticket.width → id ≡ ticket.first + (attempt + 1)
+    → Follows slots (brought what id moment slots) entries call (spec.event_after (what attempt) moment)
+brought-moved slots entries call ticket attempt moment id what sound few found within is =
+    let moved = event-moved slots entries call ticket (what attempt) moment (attempt + 1) sound few found within in
+    let same : brought what (ticket.first + (attempt + 1)) moment slots ≡ changed (visit (evented (what attempt) moment) (version_of (ticket.first + (attempt + 1)))) (ticket.first + (attempt + 1)) slots = by (value_says (look ticket.first slots)) refl in
+    rw is (subst (λ after. Follows slots after entries call (spec.event_after (what attempt) moment)) (sym same) moved)
   where
-    by : (x : Option Begun) → value_says (look ticket.first slots) ≡ x → delivered (record { id = ticket.first + (attempt + 1); code = code; text = text }) moment slots
-        ≡ changed (visit (evented (event.Reply 0 attempt code text) moment) (version_of (ticket.first + (attempt + 1)))) (ticket.first + (attempt + 1)) slots
+    by : (x : Option Begun) → value_says (look ticket.first slots) ≡ x → brought what (ticket.first + (attempt + 1)) moment slots
+        ≡ changed (visit (evented (what attempt) moment) (version_of (ticket.first + (attempt + 1)))) (ticket.first + (attempt + 1)) slots
     by None e =
         let known = known-of slots call (Some ticket) entries sound.known found in
         let o = is-over slots call ticket (most entries) known sound.open_slots (omega (arith, few)) e in
         let there = over-look slots ticket o (attempt + 1) within in
         let nothing : look (ticket.first + (attempt + 1)) slots ≡ Nothing = look-at (ticket.first + (attempt + 1)) slots o.slot there.0 ∙ there.1 in
-        ap (λ x. delivered_at (find_says x) (record { id = ticket.first + (attempt + 1); code = code; text = text }) moment slots) nothing
-        ∙ sym (over-nothing slots ticket o (attempt + 1) (λ v. visit (evented (event.Reply 0 attempt code text) moment) v) within (λ v s e. ap (λ x. visit_by (evented (event.Reply 0 attempt code text) moment) x s) e))
+        ap (λ x. brought_to (find_says x) what (ticket.first + (attempt + 1)) moment slots) nothing
+        ∙ sym (over-nothing slots ticket o (attempt + 1) (λ v. visit (evented (what attempt) moment) v) within (λ v s e. ap (λ x. visit_by (evented (what attempt) moment) x s) e))
     by (Some b) e =
         let known = known-of slots call (Some ticket) entries sound.known found in
         let l = lives slots call ticket b (most entries) known sound.open_slots e in
         let there = finds-in slots ticket b (most entries) (attempt + 1) l sound.open_slots (omega (arith, few)) within in
         let here : look (ticket.first + (attempt + 1)) slots ≡ Unlocked l.r (attempt + 1) = look-at (ticket.first + (attempt + 1)) slots (Taken l.r) (ap (λ o. slot_at o slots) there.0 ∙ l.at) ∙ there.1 in
-        delivered-as slots (record { id = ticket.first + (attempt + 1); code = code; text = text }) moment attempt (ap find_says here)
+        ap (λ o. brought_to o what (ticket.first + (attempt + 1)) moment slots) (ap find_says here ∙ ap Some (add-one attempt))
+
+-- A reply to an attempt.
+pub reply-moved : (slots : List (Slot Begun)) (entries : List (ℕ × Option Ticket)) (call : ℕ) (ticket : Ticket) (attempt code moment : ℕ) (text : List ℕ) (reply : Reply) → IsSound slots entries → length entries ≤ 500000
+    → lookup (nat_eq call) entries ≡ Some (Some ticket) → attempt + 1 < ticket.width → reply ≡ record { id = ticket.first + (attempt + 1); code = code; text = text }
+    → Follows slots (delivered reply moment slots) entries call (spec.event_after (event.Reply 0 attempt code text) moment)
+reply-moved slots entries call ticket attempt code moment text reply sound few found within is =
+    rw is (brought-moved slots entries call ticket attempt moment (ticket.first + (attempt + 1)) (λ k. event.Reply 0 k code text) sound few found within refl)
 
 -- ---- the wires
 

@@ -6,7 +6,7 @@ use Rattle.std.specs.List.{IsDistinct, AllByRecursion}
 use Rattle.std.specs.Map.{keys_of}
 use Rattle.rpc_model.specs.declared.script.Script.{Script}
 use Rattle.rpc_model.specs.declared.script.Act.{Act}
-use Rattle.rpc_model.specs.declared.script.Act.TheVariants.{Call, Cancel, Reply, Tick, Join}
+use Rattle.rpc_model.specs.declared.script.Act.TheVariants.{Call, Cancel, Reply, Lose, Tick, Join}
 use Rattle.rpc_model.specs.declared.told.Told.{Told}
 use Rattle.std.specs.declared.option.Option.{Option}
 use Rattle.rpc_model.specs.Fits.{IsPlain, IsMoment, moment_of, called}
@@ -37,6 +37,7 @@ called-cons : (act : Act) (acts : List Act) → called (act ∷ acts) ≡ called
 called-cons (Call at call chan text) acts = refl
 called-cons (Cancel at call) acts = refl
 called-cons (Reply at call node attempt code text) acts = refl
+called-cons (Lose at call node attempt code) acts = refl
 called-cons (Tick at) acts = refl
 called-cons (Join call) acts = refl
 
@@ -44,6 +45,7 @@ called-few : (act : Act) → length (called (act ∷ [])) ≤ 1
 called-few (Call at call chan text) = omega arith
 called-few (Cancel at call) = omega arith
 called-few (Reply at call node attempt code text) = omega arith
+called-few (Lose at call node attempt code) = omega arith
 called-few (Tick at) = omega arith
 called-few (Join call) = omega arith
 

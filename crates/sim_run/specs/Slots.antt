@@ -73,11 +73,19 @@ join_says reached Nothing = None
 join_says reached (Unlocked r k) = Some ((finish reached r.value).0, join_end (finished reached r.value) (end_of (finished reached r.value).state))
 join_says reached (Locked r k waiting) = None
 
--- what a reply does to the slots: an attempt is named by the place of its id behind the call's own
-abbrev pub delivered_at : Option ℕ → Reply → ℕ → List (Slot Begun) → List (Slot Begun)
-delivered_at None reply moment slots = slots
-delivered_at (Some zero) reply moment slots = slots
-delivered_at (Some (suc k)) reply moment slots = changed (visit (evented (event.Reply 0 k reply.code reply.text) moment) (version_of reply.id)) reply.id slots
+-- what becomes of an attempt is brought to the call by the attempt's id: it is named by the place of its id behind the call's own
+abbrev pub brought_to : Option ℕ → (ℕ → Event) → ℕ → ℕ → List (Slot Begun) → List (Slot Begun)
+brought_to None what id moment slots = slots
+brought_to (Some zero) what id moment slots = slots
+brought_to (Some (suc k)) what id moment slots = changed (visit (evented (what k) moment) (version_of id)) id slots
 
+abbrev pub brought : (ℕ → Event) → ℕ → ℕ → List (Slot Begun) → List (Slot Begun)
+brought what id moment slots = brought_to (find_says (look id slots)) what id moment slots
+
+-- what a reply does to the slots
 abbrev pub delivered : Reply → ℕ → List (Slot Begun) → List (Slot Begun)
-delivered reply moment slots = delivered_at (find_says (look reply.id slots)) reply moment slots
+delivered reply moment slots = brought (λ k. event.Reply 0 k reply.code reply.text) reply.id moment slots
+
+-- what the loss of an attempt does to the slots
+abbrev pub lost : ℕ → ℕ → ℕ → List (Slot Begun) → List (Slot Begun)
+lost id code moment slots = brought (λ k. event.Lost 0 k code) id moment slots

@@ -16,7 +16,7 @@ pub record IsChangedAt (server : ℕ) (f : Link → Link) (old new : List Link) 
 abbrev pub sent : ℕ → ℕ → List ℕ → Link → Link
 sent id call payload wire = record { out = wire.out ++ record { id = id; payload = payload } ∷ []; waiting = wire.waiting ++ (id, call) ∷ [] }
 
--- a wire on which a reply came in
+-- a wire on which a reply came in, or an attempt was lost
 abbrev pub received : ℕ → Link → Link
 received id wire = record wire { waiting = without id wire.waiting }
 

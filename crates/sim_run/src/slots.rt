@@ -5,7 +5,7 @@ ghost use Rattle.std.specs.Option.{option_map};
 ghost use Rattle.id_pool.specs.Ids as ids;
 ghost use Rattle.id_pool.specs.Answers.{value_says};
 ghost use Rattle.id_pool.specs.Ranges.{changed, created, look, lowest};
-ghost use Rattle.sim_run.specs.Slots.{IsFirst, visit, touch, evented, delivered, finished, finished_of, join, join_says};
+ghost use Rattle.sim_run.specs.Slots.{IsFirst, visit, touch, evented, delivered, lost, finished, finished_of, join, join_says};
 
 use crate::open_call::OpenCall;
 use crate::wire::Reply;
@@ -55,6 +55,24 @@ pub(crate) fn deliver(pool: &mut Pool<OpenCall>, reply: Reply, moment: u64)
         attempt,
         code,
         text,
+    };
+    bring(pool, id, event, moment);
+}
+
+/// Tells the attempt whose id this is that it was lost. Where the id is gone, or is a call's own, nothing happens.
+pub(crate) fn lose(pool: &mut Pool<OpenCall>, id: u64, code: u32, moment: u64)
+    ensures { pool.new ≡ lost id code moment pool.old }
+{
+    let Some(offset) = pool.find(id) else {
+        return;
+    };
+    let Some(attempt) = offset.checked_sub(1) else {
+        return;
+    };
+    let event = Event::Lost {
+        node: 0,
+        attempt,
+        code,
     };
     bring(pool, id, event, moment);
 }

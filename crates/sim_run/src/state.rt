@@ -12,10 +12,10 @@ ghost use Rattle.rpc_model.specs.declared.told.Told.TheVariants.{Full as full};
 ghost use Rattle.sim_run.specs.Wires.{IsChangedAt, sent, server_on};
 
 use crate::open_call::OpenCall;
-use crate::slots::{bring, deliver, join, take_slot};
+use crate::slots::{bring, deliver, join, lose, take_slot};
 use crate::ticket::Ticket;
 use crate::wire::Wire;
-use crate::wires::{open_wires, receive, send, server_on};
+use crate::wires::{forget, open_wires, receive, send, server_on};
 use id_pool::Pool;
 use indexmap::IndexMap;
 use rpc_base::{Bytes, List, NoMemory};
@@ -193,6 +193,35 @@ impl Replay {
         Ok(())
     }
 
+    /// An attempt of a call is lost: this is brought to the call by the id of the attempt alone.
+    fn lose(&mut self, script: &Script, moment: u64, call: u32, node: u32, attempt: u32, code: u32)
+        requires fits { Fits script.now }
+        requires ready { IsReady script.now self.old }
+        requires few { length self.old.calls.entries ≤ 500000 }
+        ensures ready { IsReady script.now self.new }
+        ensures after { replay_of self.new ≡ spec.call_event (replay_of self.old) moment call (event.Lost node attempt code) }
+        ensures calls { self.new.calls ≡ self.old.calls }
+    {
+        let Some(ticket) = self.ticket(call) else {
+            self.reached = moment;
+            return;
+        };
+        let Some(id) = ticket.attempt_id(node, attempt) else {
+            // It names no attempt of the call's plan, and so no id.
+            let event = Event::Lost {
+                node,
+                attempt,
+                code,
+            };
+            self.event(script, moment, call, event);
+            return;
+        };
+        let server = server_on(script, ticket.chan, call, attempt);
+        forget(&mut self.wires, server, id);
+        self.reached = moment;
+        lose(&mut self.pool, id, code, moment);
+    }
+
     /// A join line.
     fn join(&mut self, script: &Script, call: u32, told: &mut Vec<Told>) -> Result<(), NoMemory>
         requires ready { IsReady script.now self.old }
@@ -266,6 +295,17 @@ impl Replay {
             } => {
                 let moment = self.reached.max(*at);
                 self.reply(alloc, script, moment, *call, *node, *attempt, *code, text)
+            }
+            Act::Lose {
+                at,
+                call,
+                node,
+                attempt,
+                code,
+            } => {
+                let moment = self.reached.max(*at);
+                self.lose(script, moment, *call, *node, *attempt, *code);
+                Ok(())
             }
             Act::Tick { at } => {
                 self.reached = self.reached.max(*at);

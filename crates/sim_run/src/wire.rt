@@ -76,6 +76,13 @@ impl Wire {
         Ok(reply)
     }
 
+    /// An attempt is lost: its id doesn't wait any more.
+    pub(crate) fn forget(&mut self, id: u64)
+        ensures { self.new ≡ record self.old { waiting = without id self.old.waiting } }
+    {
+        self.outstanding.remove(id);
+    }
+
     /// The frame that comes in where this one is written.
     fn pass(&mut self, frame: &Frame) -> Result<Frame, NoMemory>
         requires fitting { IsFitting frame.now }

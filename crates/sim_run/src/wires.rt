@@ -71,3 +71,11 @@ pub(crate) fn receive(
 {
     wires[server as usize].receive(id, code, text)
 }
+
+/// An attempt at a server is lost.
+pub(crate) fn forget(wires: &mut Vec<Wire>, server: u32, id: u64)
+    requires { server < length wires.old.items }
+    ensures { IsChangedAt server (received id) wires.old.items wires.new.items }
+{
+    wires[server as usize].forget(id);
+}
