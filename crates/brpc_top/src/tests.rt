@@ -163,6 +163,23 @@ fn worked_rows(rt: HostRuntime) -> Result<(), Fail> {
             0,
             "1 ok 1 one\n3 ok 1 three\n2 ok 1 two\n",
         ),
+        // A loss ends a call that may not retry, and one after an end, of a told call or of a full one does nothing.
+        (
+            "leaf x a,b,a retry=0 backup=-1 timeout=500\nat 0 call 1 x hi\nat 5 lose 1 0#0 1009\nat 6 reply 1 0#0 0 late\njoin 1\nat 7 lose 1 0#0 104\njoin 1\n",
+            0,
+            "1 fail 1009 1\n1 gone\n",
+        ),
+        (
+            "open 1\nleaf x a retry=0 backup=-1 timeout=500\nat 0 call 1 x hi\nat 0 call 2 x hi\nat 4 lose 2 0#0 1009\nat 5 reply 1 0#0 0 abc\nat 5 lose 1 0#0 1009\njoin 1\njoin 2\n",
+            0,
+            "2 full\n1 ok 1 abc\n2 gone\n",
+        ),
+        // A loss at the very moment of the deadline comes too late.
+        (
+            "leaf x a retry=0 backup=-1 timeout=500\nat 0 call 1 x hi\nat 500 lose 1 0#0 1009\njoin 1\n",
+            0,
+            "1 fail 1008 1\n",
+        ),
         // Late moments.
         (
             "leaf x a retry=0 backup=-1 timeout=2147483647\nat 9007199254740991 call 1 x hi\nat 9007199254740991 reply 1 0#0 0 abc\njoin 1\n",
