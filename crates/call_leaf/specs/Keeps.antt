@@ -64,6 +64,18 @@ new_end e None (Some (end.Bad code)) = Ended code
 abbrev pub step_says : LeafEvent → Leaf → Leaf → LeafStep
 step_says e before now = if nat_lt before.issued now.issued then Issue before.issued else new_end e before.end now.end
 
+-- the outcome that an answer tells of
+abbrev pub outcome_after : LeafStep → Option Outcome
+outcome_after Nothing = None
+outcome_after (Issue attempt) = None
+outcome_after (Won attempt) = Some won
+outcome_after (Ended code) = Some (failed code)
+
+-- A leaf that hadn't ended has the outcome that the answer tells of, and one that had keeps its own.
+abbrev pub Ends : Option Outcome → LeafStep → Option Outcome → Type 0
+Ends None answer now = now ≡ outcome_after answer
+Ends (Some outcome) answer now = (answer ≡ Nothing) × (now ≡ Some outcome)
+
 -- The event took the model's step, whatever the text of a reply is.
 abbrev pub Steps : Kept → Kept → LeafEvent → Type 0
 Steps before now e = (text : List ℕ) → leaf_of now text ≡ leaf_step before.retry (leaf_of before text) (event_of e text)

@@ -1,6 +1,6 @@
-ghost use Rattle.std.specs.Prelude.{◌≡◌, ℕ, ◌≤◌, ◌+◌, ◌^◌, ◌<◌, List};
+ghost use Rattle.std.specs.Prelude.{◌≡◌, ℕ, ◌≤◌, ◌+◌, ◌^◌, ◌<◌, List, None, true};
 ghost use Rattle.rpc_model.specs.Leaf.{is_live};
-ghost use Rattle.call_leaf.specs.Keeps.{begun, leaf_of, Steps, Says};
+ghost use Rattle.call_leaf.specs.Keeps.{begun, leaf_of, Steps, Says, Ends};
 
 use crate::event::{LeafEvent, LeafStep};
 use rpc_model::{ERPCTIMEDOUT, retriable};
@@ -57,6 +57,7 @@ impl Leaf {
         ensures leaf { Steps self.old self.new event }
         ensures retry { self.new.retry ≡ self.old.retry }
         ensures step { Says self.old event result }
+        ensures end { Ends self.old.outcome result self.new.outcome }
     {
         match event {
             LeafEvent::Good(attempt) => self.win(attempt),
@@ -68,7 +69,8 @@ impl Leaf {
 
     /// Whether the attempt may still answer: the leaf has no end, and it is the current or the older one.
     fn is_live(&self, attempt: u32) -> bool
-        ensures { (text : List ℕ) → result ≡ is_live (leaf_of self.now text) attempt }
+        ensures live { (text : List ℕ) → result ≡ is_live (leaf_of self.now text) attempt }
+        ensures stands { result ≡ true → self.now.outcome ≡ None }
     {
         self.outcome.is_none() && (self.current == attempt || self.older == Some(attempt))
     }
@@ -77,6 +79,7 @@ impl Leaf {
         ensures leaf { Steps self.old self.new (LeafEvent.Good attempt) }
         ensures retry { self.new.retry ≡ self.old.retry }
         ensures step { Says self.old (LeafEvent.Good attempt) result }
+        ensures end { Ends self.old.outcome result self.new.outcome }
     {
         if !self.is_live(attempt) {
             return LeafStep::Nothing;
@@ -89,6 +92,7 @@ impl Leaf {
         ensures leaf { Steps self.old self.new (LeafEvent.Fail attempt code) }
         ensures retry { self.new.retry ≡ self.old.retry }
         ensures step { Says self.old (LeafEvent.Fail attempt code) result }
+        ensures end { Ends self.old.outcome result self.new.outcome }
     {
         if !self.is_live(attempt) {
             return LeafStep::Nothing;
@@ -108,6 +112,7 @@ impl Leaf {
         ensures leaf { Steps self.old self.new LeafEvent.Backup }
         ensures retry { self.new.retry ≡ self.old.retry }
         ensures step { Says self.old LeafEvent.Backup result }
+        ensures end { Ends self.old.outcome result self.new.outcome }
     {
         if self.outcome.is_some() || self.backed_up || self.issued > self.retry {
             return LeafStep::Nothing;
@@ -121,6 +126,7 @@ impl Leaf {
         ensures leaf { Steps self.old self.new LeafEvent.Deadline }
         ensures retry { self.new.retry ≡ self.old.retry }
         ensures step { Says self.old LeafEvent.Deadline result }
+        ensures end { Ends self.old.outcome result self.new.outcome }
     {
         if self.outcome.is_some() {
             return LeafStep::Nothing;
