@@ -67,6 +67,13 @@ impl Leaf {
         }
     }
 
+    /// How many attempts it has issued.
+    pub fn issued(&self) -> u32
+        ensures { result ≡ self.now.issued }
+    {
+        self.issued
+    }
+
     /// Whether the attempt may still answer: the leaf has no end, and it is the current or the older one.
     fn is_live(&self, attempt: u32) -> bool
         ensures live { (text : List ℕ) → result ≡ is_live (leaf_of self.now text) attempt }

@@ -11,3 +11,4 @@ pub mod Replies
 pub mod JoinReady
 pub mod NewCalls
 pub mod Turns
+pub mod Marks

@@ -1,37 +1,56 @@
--- What the replay's own types stand for: a call on a plain channel of one attempt, as the plain machine has it.
-use Rattle.std.specs.Prelude.{◌≡◌, ℕ, List, [], ◌∷◌, ◌==◌, ◌&&◌, Option, None, Some, if◌then◌else◌}
+-- What the replay's own type of a call stands for: a call on a plain channel, as the plain machine has it.
+use Rattle.std.specs.Prelude.{◌≡◌, ℕ, ◌+◌, max, nat_le, Bool, true, false, List, [], ◌∷◌, ◌++◌, Option, None, Some, is_some, if◌then◌else◌}
 use Rattle.rpc_model.specs.declared.event.End.{End}
-use Rattle.rpc_model.specs.declared.event.End.TheVariants.{Good, Bad}
 use Rattle.rpc_model.specs.declared.event.Event.{Event}
-use Rattle.rpc_model.specs.declared.event.Event.TheVariants.{Reply, Lost, Backup, Deadline, Cancel}
-use Rattle.rpc_model.specs.declared.codes.TheConstants.{ERPCTIMEDOUT, ECANCELED}
 use Rattle.rpc_model.specs.declared.chan.LeafChan.{LeafChan}
-use Rattle.rpc_model.specs.Leaf.{Leaf, started}
-use Rattle.rpc_model.specs.Plan.{leaf_plan}
-use Rattle.rpc_model.specs.Machine.{leaf_state, Mark, deadline}
-use Rattle.rpc_model.specs.Marks.{Begun}
+use Rattle.rpc_model.specs.Leaf.{Leaf, leaf_step}
+use Rattle.rpc_model.specs.Plan.{Plan, leaf_plan}
+use Rattle.rpc_model.specs.Machine.{State, leaf_state, end_of, Mark, MarkKind, deadline, backup}
+use Rattle.rpc_model.specs.Marks.{Begun, least_mark, take_mark}
+use Rattle.call_leaf.specs.Keeps.{Kept}
 
--- a leaf without retry and backup request
-pub record IsSingle (leaf : LeafChan) : Type 0 where
-  pub once : leaf.retry ≡ 0
-  pub alone : leaf.backup ≡ None
+-- the leaf of a call that has this end or none
+abbrev pub leaf_with : Kept → Option End → Leaf
+leaf_with kept end = record { issued = kept.issued; current = kept.current; older = kept.older; backed_up = kept.backed_up; end = end }
 
--- the leaf that issued its one attempt, with this end or none
-abbrev pub leaf_of : Option End → Leaf
-leaf_of end = record started { end = end }
+-- a mark of the root, while it waits
+abbrev pub mark_of : Option ℕ → MarkKind → List Mark
+mark_of None kind = []
+mark_of (Some moment) kind = record { moment = moment; node = 0; kind = kind } ∷ []
 
--- the root's deadline, while it waits
-abbrev pub waiting_of : Option ℕ → List Mark
-waiting_of None = []
-waiting_of (Some moment) = record { moment = moment; node = 0; kind = deadline } ∷ []
+abbrev pub begun_of : ℕ → LeafChan → List ℕ → Kept → Option End → Option ℕ → Option ℕ → Begun
+begun_of call chan request kept end due back_up =
+    record { call = call; plan = leaf_plan chan; request = request; state = leaf_state (leaf_with kept end); waiting = mark_of due deadline ++ mark_of back_up backup }
 
-abbrev pub begun_of : ℕ → LeafChan → List ℕ → Option End → Option ℕ → Begun
-begun_of call leaf request end due = record { call = call; plan = leaf_plan leaf; request = request; state = leaf_state (leaf_of end); waiting = waiting_of due }
+-- a call whose leaf hasn't ended has no end but that of a cancel
+abbrev pub IsOpen : {X : Type 0} → Option End → Option X → Type 0
+IsOpen None outcome = outcome ≡ None
+IsOpen (Some end) outcome = Unit {0}
 
--- the end that an event gives to a call whose only attempt is out
-abbrev pub end_by : Event → Option End
-end_by (Reply node attempt code text) = if node == 0 && attempt == 0 then Some (if code == 0 then Good text else Bad code) else None
-end_by (Lost node attempt code) = if node == 0 && attempt == 0 then Some (Bad code) else None
-end_by (Backup node) = None
-end_by (Deadline node) = if node == 0 then Some (Bad ERPCTIMEDOUT) else None
-end_by Cancel = Some (Bad ECANCELED)
+-- the moment of a mark that is set so long ahead
+abbrev pub due_after : ℕ → Option ℕ → Option ℕ
+due_after moment None = None
+due_after moment (Some wait) = Some (moment + wait)
+
+-- the call after its leaf took an event
+abbrev pub stepped_state : Plan → State → Event → State
+stepped_state (leaf_plan chan) (leaf_state leaf) event = leaf_state (leaf_step chan.retry leaf event)
+
+abbrev pub stepped : Begun → Event → Begun
+stepped b event = record b { state = stepped_state b.plan b.state event }
+
+-- the mark that comes first is taken where it is due
+abbrev pub taken_least : ℕ → Begun → Option (Mark × List Mark) → Bool × Begun
+taken_least moment b None = (false, b)
+taken_least moment b (Some (mark, others)) = if nat_le mark.moment moment then (true, take_mark b mark others) else (false, b)
+
+abbrev pub taken_due : ℕ → Begun → Bool × Begun
+taken_due moment b = taken_least moment b (least_mark b.waiting)
+
+-- the mark that comes first is taken, where the call has no end
+abbrev pub finished_least : ℕ → Begun → Option (Mark × List Mark) → ℕ × Begun
+finished_least reached b None = (reached, b)
+finished_least reached b (Some (mark, others)) = (max reached mark.moment, take_mark b mark others)
+
+abbrev pub finished_once : ℕ → Begun → ℕ × Begun
+finished_once reached b = if is_some (end_of b.state) then (reached, b) else finished_least reached b (least_mark b.waiting)

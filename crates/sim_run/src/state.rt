@@ -99,7 +99,7 @@ impl Replay {
         let leaf = leaf_of(script, chan);
         let width = leaf.retry + 2;
         let owned = clone_leaf(alloc, leaf)?;
-        let open = OpenCall::begin(call, owned, clone_bytes(alloc, text)?, moment);
+        let open = OpenCall::begin(alloc, call, owned, clone_bytes(alloc, text)?, moment);
         self.reached = moment;
         let Some(first) = take_slot(&mut self.pool, width, open) else {
             self.refuse(call, told)?;

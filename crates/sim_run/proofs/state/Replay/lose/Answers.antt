@@ -1,5 +1,5 @@
 -- The loss comes to the attempt that its id finds.
-use Rattle.std.proofs.Common.{◌≡◌, ◌+◌, ◌<◌, Some, sym, refl, ap, subst, ◌∙◌, arith, length}
+use Rattle.std.proofs.Common.{Some, sym, refl, ◌∙◌, arith, length}
 use Rattle.rpc_model.specs.declared.event.Event.TheVariants as event
 use Rattle.rpc_model.specs.Told as spec
 use Rattle.sim_run.specs.Desk.{IsOn}
