@@ -1,6 +1,5 @@
 -- The names are those that the words refer to.
-use Rattle.std.proofs.Common.{rules, ◌≡◌, sym, ◌∙◌, List, ℕ, Bor}
-use Rattle.std.specs.List.{list_all}
+use Rattle.std.proofs.Common.{rules, sym, ◌∙◌, List, ℕ, Bor}
 use Rattle.std.proofs.lemmas.List.Folds.{list_all-map}
 use Rattle.std.proofs.lemmas.Iterator.Search.{all_from_yields_List}
 use Rattle.std.proofs.lemmas.Iterator.{YieldsList-from_slice}

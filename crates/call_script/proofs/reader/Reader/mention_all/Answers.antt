@@ -1,5 +1,5 @@
 -- One more name is mentioned, or has no room.
-use Rattle.std.proofs.Common.{rules, ◌≡◌, ℕ, ◌≤◌, ◌<◌, List, [], Bor, length, get_or, map, true, false, arith, refl, sym, ap, ◌∙◌}
+use Rattle.std.proofs.Common.{rules, ◌≡◌, ℕ, List, [], Bor, length, get_or, map, true, false, arith, sym, ap, ◌∙◌}
 use Rattle.std.specs.Prelude.{nat_le}
 use Rattle.std.proofs.lemmas.Bool.Decides.{nat_tests}
 use Rattle.rpc_model.specs.Lines.{mention, mention_all}
@@ -26,5 +26,5 @@ loop-name-preserved c =
 pub returns-clause-known : goal.returns-clause-known
 returns-clause-known c is =
     let all : c.loop-name.self.servers ≡ mention_all c.args.self.now.servers (map (λ n. n.now) c.args.names.now) =
-        sym (mentioned_all c.loop-name.self.servers c.args.names.now c.loop-name.name-index (search rules)) ∙ c.loop-name.invariant.rest in
+    sym (mentioned_all c.loop-name.self.servers c.args.names.now c.loop-name.name-index (search rules)) ∙ c.loop-name.invariant.rest in
     rw all (mention_all_some c.args.self.now.servers c.args.names.now c.requires.some)
