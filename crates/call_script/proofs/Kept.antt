@@ -10,7 +10,7 @@ use Rattle.std.proofs.lemmas.List.Folds.{list_any-append}
 use Rattle.std.proofs.lemmas.Map.Keys.{IsDistinct-push}
 use Rattle.rpc_model.specs.declared.chan.Chan.{Chan}
 use Rattle.rpc_model.specs.declared.script.Act.{Act}
-use Rattle.rpc_model.specs.declared.script.Act.TheVariants.{Call, Cancel, Reply, Tick, Join}
+use Rattle.rpc_model.specs.declared.script.Act.TheVariants.{Call, Cancel, Reply, Lose, Tick, Join}
 use Rattle.rpc_model.specs.Fits.{IsMoment, IsAct, IsPlain, begins, called}
 use Rattle.call_script.specs.Within.{AreKnown, IsWithin}
 
@@ -18,6 +18,7 @@ begins-append : (act : Act) (calls : List ℕ) → begins act calls ≡ begins a
 begins-append (Call at call chan text) calls = refl
 begins-append (Cancel at call) calls = refl
 begins-append (Reply at call node attempt code text) calls = refl
+begins-append (Lose at call node attempt code) calls = refl
 begins-append (Tick at) calls = refl
 begins-append (Join call) calls = refl
 

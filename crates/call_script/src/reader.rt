@@ -1,9 +1,10 @@
 //! What the lines read so far say, and how one more line is judged by them.
 
-ghost use Rattle.std.specs.Prelude.{◌≡◌, ℕ, ◌+◌, ◌*◌, ◌-◌, ◌^◌, ◌<◌, ◌≤◌, ◌↔◌, ◌==◌, IsTrue, map, [], ◌∷◌, ◌++◌, length, Option, None, Some, OnOk, OnErr, IfOk, IfSome, Err, slice_get, unwrap_or, option_copied, bytes_eq};
+ghost use Rattle.std.specs.Prelude.{◌≡◌, ℕ, ◌+◌, ◌*◌, ◌-◌, ◌^◌, ◌<◌, ◌≤◌, ◌↔◌, ◌==◌, nat_le, IsTrue, All, map, [], ◌∷◌, ◌++◌, length, Option, None, Some, OnOk, OnErr, IfOk, IfSome, Err, slice_get, unwrap_or, option_copied, bytes_eq};
 ghost use Rattle.std.specs.Option.{option_map};
-ghost use Rattle.std.specs.List.{slice_split};
+ghost use Rattle.std.specs.List.{slice_split, list_all};
 ghost use Rattle.rpc_model.specs.Lines as lines;
+ghost use Rattle.rpc_model.specs.Words as words_spec;
 ghost use Rattle.rpc_model.specs.Plan.{plan};
 ghost use Rattle.rpc_model.specs.Fits.{Fits, IsAct, IsMoment, IsPlainLeaf, IsWait, begins};
 ghost use Rattle.rpc_model.specs.Script.{script_of};
@@ -118,22 +119,51 @@ impl Reader {
         matches!(self.mode, Mode::Sim)
     }
 
-    /// The number of the server of this name, which comes last where no line has mentioned it.
-    fn mention(&mut self, name: &[u8]) -> Result<u32, LineFault>
-        requires { length (lines.mention self.old.servers name.now) ≤ 16 }
-        ensures servers { OnOk result (self.new ≡ record self.old { servers = lines.mention self.old.servers name.now }) }
-        ensures number { IfOk result (λ n. n ≡ lines.server_number self.old.servers name.now) }
-        ensures known { IfOk result (λ n. n < length self.new.servers) }
+    /// A server of this name, which comes last where no line has mentioned it. Whether there was room for it.
+    fn mention(&mut self, name: &[u8]) -> Result<bool, LineFault>
+        ensures room { IfOk result (λ room. room ≡ nat_le (length (lines.mention self.old.servers name.now)) 16) }
+        ensures servers { IfOk result (λ room. IsTrue room → self.new ≡ record self.old { servers = lines.mention self.old.servers name.now }) }
         ensures cause { OnErr result (result ≡ Err LineFault.Memory) }
     {
-        match self.servers.find(name) {
-            Some(at) => Ok(at as u32),
-            None => {
-                let at = self.servers.len() as u32;
-                self.servers.push(name)?;
-                Ok(at)
+        if self.servers.find(name).is_some() {
+            return Ok(true);
+        }
+        if self.servers.len() >= 16 {
+            return Ok(false);
+        }
+        self.servers.push(name)?;
+        Ok(true)
+    }
+
+    /// Each of these servers, in their order. Whether there was room for all.
+    fn mention_all(&mut self, names: &[&[u8]]) -> Result<bool, LineFault>
+        requires few { length self.old.servers ≤ 16 }
+        requires some { 1 ≤ length names.now }
+        ensures room { IfOk result (λ room. room ≡ nat_le (length (lines.mention_all self.old.servers (map (λ n. n.now) names.now))) 16) }
+        ensures servers { IfOk result (λ room. IsTrue room → self.new ≡ record self.old { servers = lines.mention_all self.old.servers (map (λ n. n.now) names.now) }) }
+        ensures known { IfOk result (λ room. IsTrue room → 1 ≤ length self.new.servers) }
+        ensures cause { OnErr result (result ≡ Err LineFault.Memory) }
+    {
+        for name in names {
+            if !self.mention(name)? {
+                return Ok(false);
             }
         }
+        Ok(true)
+    }
+
+    /// The numbers of these servers, which lines have mentioned.
+    fn server_numbers(&self, names: &[&[u8]]) -> Result<Vec<u32>, LineFault>
+        requires { 1 ≤ length self.now.servers }
+        ensures numbers { IfOk result (λ numbers. numbers.items ≡ lines.numbers_of self.now.servers (map (λ n. n.now) names.now)) }
+        ensures known { IfOk result (λ numbers. All (λ n. n < length self.now.servers) numbers.items) }
+        ensures cause { OnErr result (result ≡ Err LineFault.Memory) }
+    {
+        let mut numbers = Vec::new(self.alloc);
+        for name in names {
+            numbers.push(self.servers.find(name).unwrap_or(0) as u32)?;
+        }
+        Ok(numbers)
     }
 
     /// One more channel.
@@ -194,26 +224,26 @@ impl Reader {
         Ok(())
     }
 
-    /// One more plain channel with one server.
+    /// One more plain channel, over servers that lines have mentioned.
     fn push_leaf(
         &mut self,
         name: &[u8],
-        server: &[u8],
+        names: &[&[u8]],
         retry: u32,
         backup: Option<u32>,
         timeout: Option<u32>,
     ) -> Result<(), LineFault>
         requires fresh { lines.index_of self.old.names name.now ≡ None }
         requires room { length self.old.names < 1000 }
-        requires server_room { length (lines.mention self.old.servers server.now) ≤ 16 }
+        requires some_name { 1 ≤ length names.now }
+        requires some_server { 1 ≤ length self.old.servers }
         requires once { retry ≡ 0 }
         requires alone { backup ≡ None }
         requires wait { IsWait timeout }
-        ensures leaf { OnOk result (self.new ≡ lines.with_leaf self.old name.now server.now retry backup timeout) }
+        ensures leaf { OnOk result (self.new ≡ record self.old { names = self.old.names ++ name.now ∷ []; chans = self.old.chans ++ chan.Leaf (record { servers = lines.numbers_of self.old.servers (map (λ n. n.now) names.now); retry = retry; backup = backup; timeout = timeout }) ∷ [] }) }
         ensures cause { OnErr result (result ≡ Err LineFault.Memory) }
     {
-        let mut servers = Vec::new(self.alloc);
-        servers.push(self.mention(server)?)?;
+        let servers = self.server_numbers(names)?;
         self.push_channel(
             name,
             LeafChan {
@@ -223,13 +253,6 @@ impl Reader {
                 timeout,
             },
         )
-    }
-
-    /// Whether a server of this name has room among those that the lines mention.
-    fn has_server_room(&self, name: &[u8]) -> bool
-        ensures { IsTrue result ↔ (length (lines.mention self.now.servers name.now) ≤ 16) }
-    {
-        self.servers.find(name).is_some() || self.servers.len() < 16
     }
 
     /// `open N`, before every call line, and once
@@ -247,24 +270,24 @@ impl Reader {
         Ok(())
     }
 
-    /// `leaf NAME SERVER retry=0 backup=-1 timeout=T`
+    /// `leaf NAME SERVERS retry=0 backup=-1 timeout=T`
     #[tactic(auto, unfolding(rpc_model::specs::Lines::leaf_line))]
     fn leaf_line(
         &mut self,
         name: &[u8],
-        server: &[u8],
+        servers: &[u8],
         retry: &[u8],
         backup: &[u8],
         timeout: &[u8],
     ) -> Result<(), LineFault>
-        ensures { Judged result self.new (lines.leaf_line self.old name.now server.now retry.now backup.now timeout.now) }
+        ensures { Judged result self.new (lines.leaf_line self.old name.now servers.now retry.now backup.now timeout.now) }
     {
         if !is_name(name) || self.names.find(name).is_some() {
             return Err(LineFault::Refused);
         }
-        if !is_name(server) {
+        let Some(names) = server_names(self.alloc, servers)? else {
             return Err(LineFault::Refused);
-        }
+        };
         let Some(retry) = number_option(retry, b"retry=", 0, 100) else {
             return Err(LineFault::Refused);
         };
@@ -277,10 +300,14 @@ impl Reader {
         if retry != 0 || backup.is_some() {
             return Err(LineFault::Refused);
         }
-        if self.names.len() >= 1_000 || !self.has_server_room(server) {
+        if self.names.len() >= 1_000 {
             return Err(LineFault::Refused);
         }
-        self.push_leaf(name, server, retry as u32, backup, timeout)?;
+        // A refusal ends the reading, so that it doesn't matter which servers it leaves mentioned.
+        if !self.mention_all(&names)? {
+            return Err(LineFault::Refused);
+        }
+        self.push_leaf(name, &names, retry as u32, backup, timeout)?;
         Ok(())
     }
 
@@ -371,6 +398,48 @@ impl Reader {
         })
     }
 
+    /// `at T lose C NODE#ATTEMPT CODE`
+    #[tactic(auto, unfolding(rpc_model::specs::Lines::lose_line))]
+    fn lose_line(
+        &mut self,
+        at: &[u8],
+        call: &[u8],
+        attempt: &[u8],
+        code: &[u8],
+    ) -> Result<(), LineFault>
+        ensures { Judged result self.new (lines.lose_line self.old at.now call.now attempt.now code.now) }
+    {
+        if !self.is_sim() {
+            return Err(LineFault::Refused);
+        }
+        let Some(at) = moment(at) else {
+            return Err(LineFault::Refused);
+        };
+        let Some(call) = call_number(call) else {
+            return Err(LineFault::Refused);
+        };
+        let Some(chan) = self.calls.chan_of(call) else {
+            return Err(LineFault::Refused);
+        };
+        let Some((node, attempt)) = attempt_word(attempt) else {
+            return Err(LineFault::Refused);
+        };
+        if !self.has_attempt(chan, node, attempt) {
+            return Err(LineFault::Refused);
+        }
+        let Some(code) = number(code, 1, 65_535) else {
+            return Err(LineFault::Refused);
+        };
+        let code = code as u32;
+        self.push_event(Act::Lose {
+            at,
+            call,
+            node,
+            attempt,
+            code,
+        })
+    }
+
     /// `at T cancel C`
     #[tactic(auto, unfolding(rpc_model::specs::Lines::cancel_line))]
     fn cancel_line(&mut self, at: &[u8], call: &[u8]) -> Result<(), LineFault>
@@ -416,6 +485,33 @@ impl Reader {
         self.push_event(Act::Join { call })
     }
 
+    /// A line of six words.
+    fn six_words(
+        &mut self,
+        kind: &[u8],
+        a: &[u8],
+        b: &[u8],
+        c: &[u8],
+        d: &[u8],
+        e: &[u8],
+    ) -> Result<(), LineFault>
+        ensures { Judged result self.new (lines.six_words self.old kind.now a.now b.now c.now d.now e.now) }
+    {
+        if *kind == *b"leaf".as_slice() {
+            return self.leaf_line(a, b, c, d, e);
+        }
+        if *kind != *b"at".as_slice() {
+            return Err(LineFault::Refused);
+        }
+        if *b == *b"call".as_slice() {
+            return self.call_line(a, c, d, e);
+        }
+        if *b == *b"lose".as_slice() {
+            return self.lose_line(a, c, d, e);
+        }
+        Err(LineFault::Refused)
+    }
+
     /// A line of so many words.
     #[tactic(auto, unfolding(rpc_model::specs::Lines::words_say))]
     fn words_say(&mut self, words: &[&[u8]]) -> Result<(), LineFault>
@@ -431,13 +527,7 @@ impl Reader {
                 if **kind == *b"at".as_slice() && **what == *b"cancel".as_slice() => {
                 self.cancel_line(at, call)
             }
-            [kind, name, server, retry, backup, timeout] if **kind == *b"leaf".as_slice() => {
-                self.leaf_line(name, server, retry, backup, timeout)
-            }
-            [kind, at, what, call, name, payload]
-                if **kind == *b"at".as_slice() && **what == *b"call".as_slice() => {
-                self.call_line(at, call, name, payload)
-            }
+            [kind, a, b, c, d, e] => self.six_words(kind, a, b, c, d, e),
             [kind, at, what, call, attempt, code, payload]
                 if **kind == *b"at".as_slice() && **what == *b"reply".as_slice() => {
                 self.reply_line(at, call, attempt, code, payload)
@@ -499,4 +589,25 @@ fn cut<'a>(alloc: Global, bytes: &'a [u8], at: u8) -> Result<Vec<&'a [u8]>, Allo
     ensures { IfOk result (λ pieces. map (λ p. p.now) pieces.items ≡ slice_split (λ b. b == at) bytes.now) }
 {
     bytes.split(|b| *b == at).collect(alloc)
+}
+
+/// 1 to 16 names with commas between them.
+#[tactic(auto, unfolding(rpc_model::specs::Lines::server_names))]
+fn server_names<'a>(alloc: Global, word: &'a [u8]) -> Result<Option<Vec<&'a [u8]>>, AllocError>
+    ensures names { IfOk result (λ names. option_map (λ v. map (λ n. n.now) v.items) names ≡ lines.server_names word.now) }
+    ensures some { IfOk result (λ names. IfSome names (λ v. 1 ≤ length v.items)) }
+{
+    let names = cut(alloc, word, b',')?;
+    Ok(if names.len() <= 16 && all_names(&names) {
+        Some(names)
+    } else {
+        None
+    })
+}
+
+/// Whether each word is a name.
+fn all_names(words: &[&[u8]]) -> bool
+    ensures { result ≡ list_all words_spec.is_name (map (λ w. w.now) words.now) }
+{
+    words.iter().all(|word| is_name(word))
 }

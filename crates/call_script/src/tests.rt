@@ -1,5 +1,5 @@
 use super::*;
-use rpc_model::{Cause, End, Mode, Told};
+use rpc_model::{Cause, Chan, End, Mode, Told};
 use std::alloc::{AllocError, Global};
 use std::test::Fail;
 
@@ -60,6 +60,14 @@ fn accepted_lines(rt: HostRuntime) -> Result<(), Fail> {
         "leaf y b retry=0 backup=-1 timeout=2147483647",
         "leaf abcdefghijklmnopqrstuvwxyz_01234 b retry=0 backup=-1 timeout=1",
         "leaf 9 56789 retry=0 backup=-1 timeout=1",
+        "at 5 lose 1 0#0 1",
+        "at 9007199254740991 lose 1 0#0 65535",
+        // Servers: two, one twice, 16, 16 with one twice, 15 new ones beside the one before.
+        "leaf y a,b retry=0 backup=-1 timeout=1",
+        "leaf y a,a retry=0 backup=-1 timeout=1",
+        "leaf y a,b,c,d,e,f,g,h,i,j,k,l,m,n,o,p retry=0 backup=-1 timeout=1",
+        "leaf y a,b,c,d,e,f,g,h,i,j,k,l,m,n,o,b retry=0 backup=-1 timeout=1",
+        "leaf y b,c,d,e,f,g,h,i,j,k,l,m,n,o,p retry=0 backup=-1 timeout=1\nleaf z p retry=0 backup=-1 timeout=1",
     ] {
         let bytes = with_line(rt.alloc(), line)?;
         assert_eq!(rt; bad_line(rt.alloc(), &bytes), None, "at {line}");
@@ -94,9 +102,7 @@ fn refused_lines(rt: HostRuntime) -> Result<(), Fail> {
         // Not built so far.
         "leaf y b retry=1 backup=-1 timeout=1",
         "leaf y b retry=0 backup=1 timeout=1",
-        "leaf y b,c retry=0 backup=-1 timeout=1",
         "sel s retry=0 timeout=-1 x",
-        "at 5 lose 1 0#0 1009",
         // Names: 33 characters, upper case, another character, none.
         "leaf abcdefghijklmnopqrstuvwxyz_012345 b retry=0 backup=-1 timeout=1",
         "leaf Y b retry=0 backup=-1 timeout=1",
@@ -111,11 +117,29 @@ fn refused_lines(rt: HostRuntime) -> Result<(), Fail> {
         "join 2",
         "at 5 cancel 2",
         "at 5 reply 2 0#0 0 abc",
+        "at 5 lose 2 0#0 1009",
+        // Reasons of a loss: none, one past each limit, too few words, too many.
+        "at 5 lose 1 0#0 0",
+        "at 5 lose 1 0#0 65536",
+        "at 5 lose 1 0#0",
+        "at 5 lose 1 1009",
+        "at 5 lose 1 0#0 1009 abc",
+        // Servers: an empty name, another character, 17 names, 17 servers in one line and over two.
+        "leaf y , retry=0 backup=-1 timeout=1",
+        "leaf y a, retry=0 backup=-1 timeout=1",
+        "leaf y ,a retry=0 backup=-1 timeout=1",
+        "leaf y a,,b retry=0 backup=-1 timeout=1",
+        "leaf y a;b retry=0 backup=-1 timeout=1",
+        "leaf y a,B retry=0 backup=-1 timeout=1",
+        "leaf y a,a,a,a,a,a,a,a,a,a,a,a,a,a,a,a,a retry=0 backup=-1 timeout=1",
+        "leaf y b,c,d,e,f,g,h,i,j,k,l,m,n,o,p,q retry=0 backup=-1 timeout=1",
         // After a call line.
         "open 1",
         // Attempts that the call can't issue.
         "at 5 reply 1 0#1 0 abc",
         "at 5 reply 1 1#0 0 abc",
+        "at 5 lose 1 0#1 1009",
+        "at 5 lose 1 1#0 1009",
         "at 5 reply 1 00#0 0 abc",
         "at 5 reply 1 0 0 abc",
         "at 5 reply 1 # 0 abc",
@@ -183,6 +207,30 @@ fn open_lines(rt: HostRuntime) -> Result<(), Fail> {
 }
 
 #[test]
+fn server_lists(rt: HostRuntime) -> Result<(), Fail> {
+    let alloc = rt.alloc();
+    let text = "leaf w c retry=0 backup=-1 timeout=1\nleaf x a,c,b,a retry=0 backup=-1 timeout=1\n";
+    let script = read_script(alloc, Mode::Sim, text.as_bytes())
+        .ok()
+        .ok_or("the script is good")?;
+    assert_eq!(rt; script.servers, 3);
+    assert_eq!(rt; script.chans.list().len(), 2);
+    let Some(Chan::Leaf(leaf)) = script.chans.list().get(1) else {
+        return Err("there is a second channel".into());
+    };
+    assert_eq!(rt; leaf.servers.list(), [1, 0, 2, 1].as_slice());
+    // The 17th server comes in a later line.
+    let mut text = Vec::from_slice(
+        alloc,
+        b"leaf w a,b,c,d,e,f,g,h,i,j,k,l,m,n,o,p retry=0 backup=-1 timeout=1\n",
+    )?;
+    assert_eq!(rt; bad_line(alloc, &text), None);
+    text.extend_from_slice(b"leaf x p,a,q retry=0 backup=-1 timeout=1\n")?;
+    assert_eq!(rt; bad_line(alloc, &text), Some(2));
+    Ok(())
+}
+
+#[test]
 fn limits_of_length(rt: HostRuntime) -> Result<(), Fail> {
     let alloc = rt.alloc();
     let text = long_line(alloc, "at 5 call 2 x ", b't', 60_000, "\n")?;
@@ -217,6 +265,7 @@ fn lines_of_live(rt: HostRuntime) -> Result<(), Fail> {
         ("join 1", None),
         ("at 3 tick", Some(3)),
         ("at 5 reply 1 0#0 0 abc", Some(3)),
+        ("at 5 lose 1 0#0 1009", Some(3)),
     ] {
         let bytes = with_line(alloc, line)?;
         let found = match read_script(alloc, Mode::Live, &bytes) {
