@@ -7,6 +7,7 @@ use Rattle.id_pool.specs.Ids.{one_less, slot_of, version_of}
 use Rattle.id_pool.specs.Ranges.{Slot, Vacant, Retired, Taken, Range, offset, seen, seen_at, seen_in, look, slot_at, change}
 use Rattle.id_pool.specs.Answers.{value_says}
 use Rattle.sim_run.specs.declared.ticket.Ticket.{Ticket}
+use Rattle.sim_run.proofs.Changes.{slice_get-change}
 use Rattle.sim_run.specs.Desk.{IsOf, IsOfSlot, IsNumbered, IsKnown, IsPastIn, IsPast}
 
 pub high_half : (h s : ℕ) → one_less h ≡ Some s → h ≡ suc s
@@ -77,11 +78,6 @@ slice_get-other zero (suc j) f (s ∷ ss) h = refl
 slice_get-other (suc i) zero f (s ∷ ss) h = refl
 slice_get-other (suc i) (suc j) f (s ∷ ss) h = slice_get-other i j f ss (λ e. h (ap suc e))
 
-slice_get-own : {T : Type 0} (i : ℕ) (f : Slot T → Slot T) (slots : List (Slot T)) (s : Slot T) → slice_get slots i ≡ Some s → slice_get (change i f slots) i ≡ Some (f s)
-slice_get-own i f [] s e = absurd (cc)
-slice_get-own zero f (x ∷ xs) s e = let same : x ≡ s = cc in ap (λ y. Some (f y)) same
-slice_get-own (suc i) f (x ∷ xs) s e = slice_get-own i f xs s e
-
 -- what ids that aren't those of the changed slot's range know of a change
 pub record StandsAside (slots after : List (Slot Begun)) (call : ℕ) (range : Ticket) : Type 0 where
   pub value : value_says (look range.first after) ≡ value_says (look range.first slots)
@@ -98,7 +94,7 @@ aside-at slots after call range (Some j) i f s p e at next known aside = elim (s
   | inl same ↦
       let here : slot_of range.first ≡ Some i = p ∙ ap Some (sym same) in
       let at0 : slot_at (slot_of range.first) slots ≡ Some s = ap (λ o. slot_at o slots) here ∙ at in
-      let at1 : slot_at (slot_of range.first) after ≡ Some (f s) = ap (λ o. slot_at o after) here ∙ ap (λ (ss : List (Slot Begun)). slice_get ss i) e ∙ slice_get-own i f slots s at in
+      let at1 : slot_at (slot_of range.first) after ≡ Some (f s) = ap (λ o. slot_at o after) here ∙ ap (λ (ss : List (Slot Begun)). slice_get ss i) e ∙ slice_get-change i f slots s at in
       let both = aside-slot range s (f s) known.0 next (found (version_of range.first) range _ s at0 known.1) (aside here) in
       let value : value_says (look range.first after) ≡ value_says (look range.first slots) =
       ap (λ m. value_says (seen_in (version_of range.first) m)) at1 ∙ both.0 ∙ sym (ap (λ m. value_says (seen_in (version_of range.first) m)) at0) in
@@ -137,7 +133,7 @@ past-at v i f slots s None at next h = h
 past-at v i f slots s (Some j) at next h = elim (same_or i j) [
   | inl same ↦
       let here : slice_get slots j ≡ Some s = ap (slice_get slots) (sym same) ∙ at in
-      let there : slice_get (change i f slots) j ≡ Some (f s) = ap (slice_get (change i f slots)) (sym same) ∙ slice_get-own i f slots s at in
+      let there : slice_get (change i f slots) j ≡ Some (f s) = ap (slice_get (change i f slots)) (sym same) ∙ slice_get-change i f slots s at in
       subst (IsPastIn v) (sym there) (past-slot v s (f s) next (subst (IsPastIn v) here h))
   | inr other ↦ subst (IsPastIn v) (sym (slice_get-other i j f slots other)) h
 ]

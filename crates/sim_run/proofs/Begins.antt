@@ -15,7 +15,7 @@ use Rattle.id_pool.proofs.Ids.{slot_of-make_id, version_of-make_id}
 use Rattle.sim_run.specs.declared.ticket.Ticket.{Ticket}
 use Rattle.sim_run.specs.Desk.{stand, standing_at, standing, standings, with_first, firsts, IsOfSlot, IsNumbered, IsKnown, is_taken, IsSlot, IsSound, IsPast}
 use Rattle.sim_run.proofs.Apart.{StandsAside, stands-aside, past-change, length-change}
-use Rattle.sim_run.proofs.Changes.{look-at, seen-taken}
+use Rattle.sim_run.proofs.Changes.{look-at, seen-taken, slice_get-change}
 use Rattle.sim_run.proofs.Steps.{offset-in}
 use Rattle.sim_run.proofs.Entries.{one, count-cons, count-change, All-change, slot-of-all}
 
@@ -68,18 +68,15 @@ not-all-taken (x ∷ xs) (suc i) next e =
 
 -- ---- one more entry
 
-distinct-snoc : (xs : List ℕ) (x : ℕ) → IsDistinct nat_eq xs → AllByRecursion (λ y. nat_eq y x ≡ false) xs → IsDistinct nat_eq (xs ++ x ∷ [])
-distinct-snoc [] x d h = IsDistinct-cons nat_eq x [] tt d
-distinct-snoc (y ∷ ys) x d h =
-    IsDistinct-cons nat_eq y (ys ++ x ∷ []) (all-snoc (λ z. nat_eq y z ≡ false) ys x (IsDistinct-head nat_eq y ys d) h.0) (distinct-snoc ys x (IsDistinct-tail nat_eq y ys d) h.1)
-  where
-    all-snoc : (P : ℕ → Type 0) (xs : List ℕ) (x : ℕ) → AllByRecursion P xs → P x → AllByRecursion P (xs ++ x ∷ [])
-    all-snoc P [] x h p = (p, tt)
-    all-snoc P (y ∷ ys) x h p = (h.0, all-snoc P ys x h.1 p)
-
+-- One more element.
 pub All-snoc : {X : Type 0} (P : X → Type 0) (xs : List X) (x : X) → AllByRecursion P xs → P x → AllByRecursion P (xs ++ x ∷ [])
 All-snoc P [] x h p = (p, tt)
 All-snoc P (y ∷ ys) x h p = (h.0, All-snoc P ys x h.1 p)
+
+distinct-snoc : (xs : List ℕ) (x : ℕ) → IsDistinct nat_eq xs → AllByRecursion (λ y. nat_eq y x ≡ false) xs → IsDistinct nat_eq (xs ++ x ∷ [])
+distinct-snoc [] x d h = IsDistinct-cons nat_eq x [] tt d
+distinct-snoc (y ∷ ys) x d h =
+    IsDistinct-cons nat_eq y (ys ++ x ∷ []) (All-snoc (λ z. nat_eq y z ≡ false) ys x (IsDistinct-head nat_eq y ys d) h.0) (distinct-snoc ys x (IsDistinct-tail nat_eq y ys d) h.1)
 
 pub All-weaken : {X : Type 0} (P Q : X → Type 0) (xs : List X) → ((x : X) → P x → Q x) → AllByRecursion P xs → AllByRecursion Q xs
 All-weaken P Q [] f h = tt
@@ -166,7 +163,7 @@ call-begins slots entries call i next width chan b sound few at some most number
     let others = all-aside slots after entries (λ c other k. stands-aside slots after c other i g (Vacant next) refl at refl k (λ here. tt)) sound.known in
     let slot : slot_of (make_id i next) ≡ Some i = slot_of-make_id i next low in
     let version : version_of (make_id i next) ≡ next = version_of-make_id i next low in
-    let at_new : slot_at (slot_of (make_id i next)) after ≡ Some t = ap (λ o. slot_at o after) slot ∙ get-change i g slots (Vacant next) at in
+    let at_new : slot_at (slot_of (make_id i next)) after ≡ Some t = ap (λ o. slot_at o after) slot ∙ slice_get-change i g slots (Vacant next) at in
     let zero_more : version_of (make_id i next) ≡ next + 0 = version ∙ omega arith in
     let looks : value_says (look (make_id i next) after) ≡ Some b =
     ap value_says (look-at (make_id i next) after t at_new ∙ seen-taken (version_of (make_id i next)) (fresh next width b) (Some 0) Free (ap (offset (fresh next width b)) zero_more ∙ offset-in (fresh next width b) 0 (omega (arith, some))) refl) in
@@ -188,8 +185,3 @@ call-begins slots entries call i next width chan b sound few at some most number
       past = λ id h. past-change i g slots (Vacant next) id at refl h;
       size = length-change i g slots;
     }
-  where
-    get-change : (i : ℕ) (f : Slot Begun → Slot Begun) (slots : List (Slot Begun)) (s : Slot Begun) → slice_get slots i ≡ Some s → slice_get (change i f slots) i ≡ Some (f s)
-    get-change i f [] s e = absurd (cc)
-    get-change zero f (x ∷ xs) s e = let same : x ≡ s = cc in ap (λ y. Some (f y)) same
-    get-change (suc i) f (x ∷ xs) s e = get-change i f xs s e

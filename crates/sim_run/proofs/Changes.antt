@@ -117,7 +117,8 @@ module _ {T : Type 0} where
   visit-nothing f id slots none =
       changed-alike id (locked (version_of id)) (visit f (version_of id)) slots (λ s at. locked-visit f (seen (version_of id) s) s (λ k e. none k (ap lock_says (look-at id slots s at) ∙ e)))
 
-  slice_get-change : (i : ℕ) (f : Slot T → Slot T) (slots : List (Slot T)) (s : Slot T) → slice_get slots i ≡ Some s → slice_get (change i f slots) i ≡ Some (f s)
+  -- the slot of this number, after it was changed
+  pub slice_get-change : (i : ℕ) (f : Slot T → Slot T) (slots : List (Slot T)) (s : Slot T) → slice_get slots i ≡ Some s → slice_get (change i f slots) i ≡ Some (f s)
   slice_get-change i f [] s e = absurd (cc)
   slice_get-change zero f (x ∷ xs) s e = let same : x ≡ s = cc in ap (λ y. Some (f y)) same
   slice_get-change (suc i) f (x ∷ xs) s e = slice_get-change i f xs s e

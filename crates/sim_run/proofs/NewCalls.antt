@@ -21,6 +21,7 @@ use Rattle.sim_run.specs.declared.state.Replay.{Replay}
 use Rattle.sim_run.specs.Link.{Link}
 use Rattle.sim_run.specs.Wires.{IsChangedAt, sent}
 use Rattle.sim_run.specs.Desk.{standings, IsSlot, IsPast, IsPastIn, IsWire, IsOn, IsReady, replay_of}
+use Rattle.sim_run.proofs.Changes.{slice_get-change}
 use Rattle.sim_run.proofs.Entries.{slot-of-all}
 use Rattle.sim_run.proofs.Begins.{Joined, lowest-at, all-taken, not-all-taken, call-begins, full-begins, All-snoc, All-weaken}
 use Rattle.sim_run.proofs.Ready.{wires-past}
@@ -122,13 +123,8 @@ first-past old script width first b after ready few some p made =
     let id : first + 1 ≡ make_id p.slot (p.next + 1) = ap (λ n. n + 1) p.is ∙ make_id-plus p.slot p.next 1 in
     let slot : slot_of (first + 1) ≡ Some p.slot = ap slot_of id ∙ slot_of-make_id p.slot (p.next + 1) low in
     let version : version_of (first + 1) ≡ p.next + 1 = ap version_of id ∙ version_of-make_id p.slot (p.next + 1) low in
-    let at : slot_at (slot_of (first + 1)) after ≡ Some (Taken (fresh p.next width b)) = ap (λ o. slot_at o after) slot ∙ ap (λ (ss : List (Slot Begun)). slice_get ss p.slot) (made ∙ p.after) ∙ get-change p.slot (λ s. Taken (fresh p.next width b)) old.pool (Vacant p.next) p.at in
+    let at : slot_at (slot_of (first + 1)) after ≡ Some (Taken (fresh p.next width b)) = ap (λ o. slot_at o after) slot ∙ ap (λ (ss : List (Slot Begun)). slice_get ss p.slot) (made ∙ p.after) ∙ slice_get-change p.slot (λ s. Taken (fresh p.next width b)) old.pool (Vacant p.next) p.at in
     subst (IsPastIn (version_of (first + 1))) (sym at) (omega (arith, version, some))
-  where
-    get-change : (i : ℕ) (f : Slot Begun → Slot Begun) (slots : List (Slot Begun)) (s : Slot Begun) → slice_get slots i ≡ Some s → slice_get (change i f slots) i ≡ Some (f s)
-    get-change i f [] s e = absurd (cc)
-    get-change zero f (x ∷ xs) s e = let same : x ≡ s = cc in ap (λ y. Some (f y)) same
-    get-change (suc i) f (x ∷ xs) s e = get-change i f xs s e
 
 -- that id waits nowhere yet
 pub first-silent : (old : Replay) (script : Script) (width first : ℕ) (b : Begun) → IsReady script old → length old.calls.entries ≤ 500000 → (p : Place old.pool width first b) → AllByRecursion (λ w. is_outstanding (first + 1) w.waiting ≡ false) old.wires.items

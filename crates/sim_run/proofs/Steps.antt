@@ -14,7 +14,7 @@ use Rattle.id_pool.specs.Answers.{value_says}
 use Rattle.sim_run.specs.declared.ticket.Ticket.{Ticket}
 use Rattle.sim_run.specs.Slots.{visit, visit_by, visited, evented}
 use Rattle.sim_run.specs.Desk.{stand, standing_at, standings, IsOf, IsOfSlot, IsNumbered, IsKnown, is_taken, IsSlot, IsSound, IsPast}
-use Rattle.sim_run.proofs.Changes.{look-at, seen-taken, changed-nothing}
+use Rattle.sim_run.proofs.Changes.{look-at, seen-taken, changed-nothing, slice_get-change}
 use Rattle.sim_run.proofs.Apart.{same_id, IsNext, IsAside, StandsAside, stands-aside, past-change, length-change}
 use Rattle.sim_run.proofs.Entries.{one, moved, find-standing, change_first-nothing, count-change_first, count-change, All-change, slot-of-all, known-of}
 
@@ -88,7 +88,7 @@ stepped slots entries call range b g t f sound found value l is next open_ stand
     let after = change l.slot g slots in
     let aside : (c : ℕ) (other : Ticket) → other.first ≢ range.first → IsKnown slots c (Some other) → StandsAside slots after c other =
     λ c other differ k. stands-aside slots after c other l.slot g (Taken l.r) refl l.at (subst (IsNext (Taken l.r)) (sym is) next) k (λ here. other-aside slots range b l other differ here) in
-    let at : slot_at (slot_of range.first) after ≡ Some t = ap (λ o. slot_at o after) l.here ∙ get-change l.slot g slots (Taken l.r) l.at ∙ ap Some is in
+    let at : slot_at (slot_of range.first) after ≡ Some t = ap (λ o. slot_at o after) l.here ∙ slice_get-change l.slot g slots (Taken l.r) l.at ∙ ap Some is in
     let looks : look range.first after ≡ seen (version_of range.first) t = look-at range.first after t at in
     let before : standing_at slots call (Some range) ≡ begun b = ap (stand call) value in
     let own : standing_at after call (Some range) ≡ f (standing_at slots call (Some range)) = ap (λ x. stand call (value_says x)) looks ∙ sym stands ∙ ap f (sym before) in
@@ -112,11 +112,6 @@ stepped slots entries call range b g t f sound found value l is next open_ stand
       past = λ id h. past-change l.slot g slots (Taken l.r) id l.at (subst (IsNext (Taken l.r)) (sym is) next) h;
       size = length-change l.slot g slots;
     }
-  where
-    get-change : (i : ℕ) (f : Slot Begun → Slot Begun) (slots : List (Slot Begun)) (s : Slot Begun) → slice_get slots i ≡ Some s → slice_get (change i f slots) i ≡ Some (f s)
-    get-change i f [] s e = absurd (cc)
-    get-change zero f (x ∷ xs) s e = let same : x ≡ s = cc in ap (λ y. Some (f y)) same
-    get-change (suc i) f (x ∷ xs) s e = get-change i f xs s e
 
 plus-version : (first k : ℕ) → version_of first + k < 2 ^ 32 → version_of (first + k) ≡ version_of first + k
 plus-version first k h = omega arith
