@@ -1,5 +1,5 @@
 #!/usr/bin/env bash
-# Times the built program on scripts of 10,000 and 100,000 calls, each with a reply and a join.
+# Times the built program on scripts of 10,000 and 100,000 calls, each with a reply or a loss, and a join.
 set -eu
 cd "$(dirname "$0")/.." || exit 1
 program=crates/brpc_run/out/brpc_run
@@ -12,6 +12,14 @@ one_by_one() {
     awk -v n="$1" 'BEGIN {
         print "leaf x a retry=0 backup=-1 timeout=500"
         for (i = 1; i <= n; i++) printf "at %d call %d x hello\nat %d reply %d 0#0 0 abc\njoin %d\n", i, i, i, i, i
+    }'
+}
+
+# so many calls over three servers, each of which is lost
+lost() {
+    awk -v n="$1" 'BEGIN {
+        print "leaf x a,b,c retry=0 backup=-1 timeout=500"
+        for (i = 1; i <= n; i++) printf "at %d call %d x hello\nat %d lose %d 0#0 1009\njoin %d\n", i, i, i, i, i
     }'
 }
 
@@ -28,13 +36,13 @@ many_open() {
     }'
 }
 
-for kind in one_by_one many_open; do
+for kind in one_by_one many_open lost; do
     for calls in 10000 100000; do
         "$kind" "$calls" >"$folder/script"
         start=$(date +%s%N)
         "$program" sim <"$folder/script" >"$folder/out"
         end=$(date +%s%N)
-        ok=$(grep -c ' ok 1 abc$' "$folder/out")
-        echo "$kind $calls: $(stat -c %s "$folder/script") bytes, $(((end - start) / 1000000)) ms, $ok calls ok"
+        ended=$(grep -c -E ' (ok 1 abc|fail 1009 1)$' "$folder/out")
+        echo "$kind $calls: $(stat -c %s "$folder/script") bytes, $(((end - start) / 1000000)) ms, $ended calls ended as they should"
     done
 done
