@@ -3,3 +3,4 @@ pub mod MomentsStay
 pub mod Runs
 pub mod Once
 pub mod Attempts
+pub mod Early

@@ -22,7 +22,7 @@ step_at-sets : (node : ℕ) (p : Plan) (call : ℕ) (request : List ℕ) (state 
 step_at-sets node (leaf_plan leaf) call request (leaf_state before) e moment =
     elim (is_at node e) as (λ b. (cond b (leaf_run leaf call node request before (leaf_step leaf.retry before e)) (quiet (leaf_state before))).marks ≡ []) [ true ↦ refl | false ↦ refl ]
 
-step-sets : (p : Plan) (call : ℕ) (request : List ℕ) (state : State) (e : Event) (moment : ℕ) → (step p call request state e moment).marks ≡ []
+pub step-sets : (p : Plan) (call : ℕ) (request : List ℕ) (state : State) (e : Event) (moment : ℕ) → (step p call request state e moment).marks ≡ []
 step-sets p call request state event.Cancel moment = refl
 step-sets p call request state (event.Reply node attempt code text) moment = step_at-sets 0 p call request state (event.Reply node attempt code text) moment
 step-sets p call request state (event.Lost node attempt code) moment = step_at-sets 0 p call request state (event.Lost node attempt code) moment

@@ -21,7 +21,7 @@ weave_least-call again moment b None keeps = refl
 weave_least-call again moment b (Some (mark, others)) keeps =
     elim (nat_le mark.moment moment) as (λ v. (cond v (again (take_mark b mark others)) b).call ≡ b.call) [ true ↦ keeps (take_mark b mark others) | false ↦ refl ]
 
-weave-call : (count moment : ℕ) (b : Begun) → (weave_at_most count moment b).call ≡ b.call
+pub weave-call : (count moment : ℕ) (b : Begun) → (weave_at_most count moment b).call ≡ b.call
 weave-call zero moment b = refl
 weave-call (suc count) moment b = weave_least-call (weave_at_most count moment) moment b (least_mark b.waiting) (λ d. weave-call count moment d)
 

@@ -10,4 +10,5 @@ pub mod Lines
 pub mod Script
 pub mod Fits
 pub mod Moments
+pub mod Early
 pub mod Laws

@@ -1,5 +1,6 @@
 //! Laws of the plain machine, each as the contract of a function that does nothing.
 
+ghost use Rattle.rpc_model.specs.Early.{DueMarksMayBeTakenAtOnce};
 ghost use Rattle.rpc_model.specs.Laws.{EndsStay, AttemptsAreFew, OneAttempt, ReplacedAttemptsDoNothing, SendsAreAttempts, SuccessNeedsALiveReply, ToldOnce};
 
 /// An end never changes, whatever comes after it.
@@ -35,4 +36,9 @@ pub fn replaced_attempts_do_nothing()
 /// A success comes only from a reply of code 0 to an attempt that is live at that moment.
 pub fn success_needs_a_live_reply()
     ensures { SuccessNeedsALiveReply }
+{}
+
+/// Calls may take their marks as soon as these are due, or only before their next event: the joins tell the same.
+pub fn due_marks_may_be_taken_at_once()
+    ensures { DueMarksMayBeTakenAtOnce }
 {}

@@ -21,8 +21,8 @@ pub use codes::{
 };
 pub use event::{End, Event};
 pub use laws::{
-    attempts_are_few, ends_stay, one_attempt, replaced_attempts_do_nothing, sends_are_attempts,
-    success_needs_a_live_reply, told_once,
+    attempts_are_few, due_marks_may_be_taken_at_once, ends_stay, one_attempt,
+    replaced_attempts_do_nothing, sends_are_attempts, success_needs_a_live_reply, told_once,
 };
 pub use script::{Act, Cause, Mode, Script};
 pub use sent::Sent;
