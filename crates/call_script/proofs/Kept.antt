@@ -11,7 +11,7 @@ use Rattle.std.proofs.lemmas.Map.Keys.{IsDistinct-push}
 use Rattle.rpc_model.specs.declared.chan.Chan.{Chan}
 use Rattle.rpc_model.specs.declared.script.Act.{Act}
 use Rattle.rpc_model.specs.declared.script.Act.TheVariants.{Call, Cancel, Reply, Lose, Tick, Join}
-use Rattle.rpc_model.specs.Fits.{IsMoment, IsAct, IsPlain, begins, called}
+use Rattle.rpc_model.specs.Fits.{IsMoment, IsAct, IsChan, begins, called}
 use Rattle.call_script.specs.Within.{AreKnown, IsWithin}
 
 begins-append : (act : Act) (calls : List ℕ) → begins act calls ≡ begins act [] ++ calls
@@ -68,7 +68,7 @@ within_nothing = record {
   fit = All-nil (IsAct 0);
   known = λ number none. refl;
   calls_differ = tt;
-  plain = All-nil (IsPlain 0);
+  channels = All-nil (IsChan 0);
 }
 
 -- One more line that begins no call.
@@ -90,7 +90,7 @@ within_event slots names servers chans calls acts act events weight w room momen
       fit = All-push (IsAct (length chans)) acts act w.fit fit;
       known = rw same w.known;
       calls_differ = rw same w.calls_differ;
-      plain = w.plain;
+      channels = w.channels;
     }
 
 -- One more call, whose line isn't kept.
@@ -110,7 +110,7 @@ within_call slots names servers chans calls acts call events weight w room = rec
   fit = w.fit;
   known = known-call calls (called acts) call w.known;
   calls_differ = w.calls_differ;
-  plain = w.plain;
+  channels = w.channels;
 }
 
 -- One more call and its line.
@@ -132,5 +132,5 @@ within_call_line slots names servers chans calls acts at call chan text events w
       fit = All-push (IsAct (length chans)) acts (Call at call chan text) w.fit (let n = w.named in omega arith, short);
       known = rw same (known-number calls (called acts) (call, chan) w.known);
       calls_differ = rw same (IsDistinct-push nat_eq_equiv (called acts) call w.calls_differ (w.known call (fresh (find (λ c. c.0 == call) calls) none)));
-      plain = w.plain;
+      channels = w.channels;
     }

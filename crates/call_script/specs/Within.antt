@@ -3,7 +3,7 @@ use Rattle.std.specs.Prelude.{◌≡◌, ℕ, ◌+◌, ◌^◌, ◌≤◌, ◌==
 use Rattle.std.specs.List.{IsDistinct, list_any}
 use Rattle.rpc_model.specs.declared.chan.Chan.{Chan}
 use Rattle.rpc_model.specs.declared.script.Act.{Act}
-use Rattle.rpc_model.specs.Fits.{IsMoment, IsAct, IsPlain, called}
+use Rattle.rpc_model.specs.Fits.{IsMoment, IsAct, IsChan, called}
 
 -- so many calls may be open, where a line says how many
 abbrev pub AreSlots : Option ℕ → Type 0
@@ -27,4 +27,4 @@ pub record IsWithin (slots : Option ℕ) (names servers : List (List ℕ)) (chan
   pub fit : All (IsAct (length chans)) acts
   pub known : AreKnown calls (called acts)
   pub calls_differ : IsDistinct nat_eq (called acts)
-  pub plain : All (IsPlain (length servers)) chans
+  pub channels : All (IsChan (length servers)) chans

@@ -6,7 +6,7 @@ ghost use Rattle.std.specs.List.{slice_split, list_all};
 ghost use Rattle.rpc_model.specs.Lines as lines;
 ghost use Rattle.rpc_model.specs.Words as words_spec;
 ghost use Rattle.rpc_model.specs.Plan.{plan};
-ghost use Rattle.rpc_model.specs.Fits.{Fits, IsAct, IsMoment, IsPlainLeaf, IsWait, begins};
+ghost use Rattle.rpc_model.specs.Fits.{Fits, IsAct, IsMoment, IsLeaf, IsWait, begins};
 ghost use Rattle.rpc_model.specs.Script.{script_of};
 ghost use Rattle.rpc_model.specs.declared.chan.Chan.TheVariants as chan;
 ghost use Rattle.rpc_model.specs.declared.script.Act.TheVariants as act;
@@ -170,7 +170,7 @@ impl Reader {
     fn push_channel(&mut self, name: &[u8], leaf: LeafChan) -> Result<(), LineFault>
         requires fresh { lines.index_of self.old.names name.now ≡ None }
         requires room { length self.old.names < 1000 }
-        requires plain { IsPlainLeaf (length self.old.servers) leaf }
+        requires leaf { IsLeaf (length self.old.servers) leaf }
         ensures channel { OnOk result (self.new ≡ record self.old { names = self.old.names ++ name.now ∷ []; chans = self.old.chans ++ chan.Leaf leaf ∷ [] }) }
         ensures cause { OnErr result (result ≡ Err LineFault.Memory) }
     {
@@ -237,9 +237,9 @@ impl Reader {
         requires room { length self.old.names < 1000 }
         requires some_name { 1 ≤ length names.now }
         requires some_server { 1 ≤ length self.old.servers }
-        requires once { retry ≡ 0 }
-        requires alone { backup ≡ None }
-        requires wait { IsWait timeout }
+        requires few_retries { retry ≤ 100 }
+        requires backup { IsWait backup }
+        requires timeout { IsWait timeout }
         ensures leaf { OnOk result (self.new ≡ record self.old { names = self.old.names ++ name.now ∷ []; chans = self.old.chans ++ chan.Leaf (record { servers = lines.numbers_of self.old.servers (map (λ n. n.now) names.now); retry = retry; backup = backup; timeout = timeout }) ∷ [] }) }
         ensures cause { OnErr result (result ≡ Err LineFault.Memory) }
     {
@@ -270,7 +270,7 @@ impl Reader {
         Ok(())
     }
 
-    /// `leaf NAME SERVERS retry=0 backup=-1 timeout=T`
+    /// `leaf NAME SERVERS retry=R backup=B timeout=T`
     #[tactic(auto, unfolding(rpc_model::specs::Lines::leaf_line))]
     fn leaf_line(
         &mut self,
@@ -297,9 +297,6 @@ impl Reader {
         let Some(timeout) = wait_option(timeout, b"timeout=") else {
             return Err(LineFault::Refused);
         };
-        if retry != 0 || backup.is_some() {
-            return Err(LineFault::Refused);
-        }
         if self.names.len() >= 1_000 {
             return Err(LineFault::Refused);
         }

@@ -24,7 +24,7 @@ use Rattle.rpc_model.proofs.Once.{weave-call}
 -- ---- how many marks wait
 
 -- A taken mark leaves the others.
-taken-waits : (b : Begun) (mark : Mark) (others : List Mark) → (take_mark b mark others).waiting ≡ others
+pub taken-waits : (b : Begun) (mark : Mark) (others : List Mark) → (take_mark b mark others).waiting ≡ others
 taken-waits b mark others = ap (λ ms. others ++ ms) (step-sets b.plan b.call b.request b.state (mark_event mark.node mark.kind) mark.moment) ∙ append-nil others
 
 others-length : (p q : Mark × List Mark) → Some p ≡ Some q → length p.1 ≡ length q.1
@@ -48,22 +48,22 @@ lesser-some x xs (Some (least, ms)) e = by (is_before least x) e
     by true e = cc
     by false e = cc
 
-least-length : (xs : List Mark) (mark : Mark) (others : List Mark) → least_mark xs ≡ Some (mark, others) → length xs ≡ suc (length others)
+pub least-length : (xs : List Mark) (mark : Mark) (others : List Mark) → least_mark xs ≡ Some (mark, others) → length xs ≡ suc (length others)
 least-length [] mark others e = absurd (cc)
 least-length (x ∷ xs) mark others e = ap suc (lesser-length x xs (least_mark xs) mark others (λ m ms f. least-length xs m ms f) e)
 
-least-zero : (xs : List Mark) → length xs ≤ 0 → least_mark xs ≡ None
+pub least-zero : (xs : List Mark) → length xs ≤ 0 → least_mark xs ≡ None
 least-zero [] h = refl
 least-zero (x ∷ xs) h = absurd (omega (arith, h))
 
 -- ---- fuel
 
-weave-idle : (n moment : ℕ) (b : Begun) → least_mark b.waiting ≡ None → weave_at_most n moment b ≡ b
+pub weave-idle : (n moment : ℕ) (b : Begun) → least_mark b.waiting ≡ None → weave_at_most n moment b ≡ b
 weave-idle zero moment b e = refl
 weave-idle (suc n) moment b e = ap (weave_least (weave_at_most n moment) moment b) e
 
 -- what a weave does that meets this mark
-weave-meets : (n moment : ℕ) (b : Begun) (mark : Mark) (others : List Mark) → least_mark b.waiting ≡ Some (mark, others) → weave_at_most (suc n) moment b ≡ cond (nat_le mark.moment moment) (weave_at_most n moment (take_mark b mark others)) b
+pub weave-meets : (n moment : ℕ) (b : Begun) (mark : Mark) (others : List Mark) → least_mark b.waiting ≡ Some (mark, others) → weave_at_most (suc n) moment b ≡ cond (nat_le mark.moment moment) (weave_at_most n moment (take_mark b mark others)) b
 weave-meets n moment b mark others e = ap (weave_least (weave_at_most n moment) moment b) e
 
 either : {X : Type 0} (v : Bool) (x y z : X) → x ≡ y → cond v x z ≡ cond v y z
@@ -103,7 +103,7 @@ fewer-step k r b (Some (mark, others)) e again =
     let fewer = again (take_mark b mark others) in
     subst (λ (d : Begun). length d.waiting ≤ length b.waiting) (sym (weave-meets k r b mark others e)) (fewer-due k r b mark others (nat_le mark.moment r) (omega (arith, l, w, fewer)))
 
-weave-fewer : (k r : ℕ) (b : Begun) → length (weave_at_most k r b).waiting ≤ length b.waiting
+pub weave-fewer : (k r : ℕ) (b : Begun) → length (weave_at_most k r b).waiting ≤ length b.waiting
 weave-fewer zero r b = omega arith
 weave-fewer (suc k) r b = fewer-step k r b (least_mark b.waiting) refl (λ d. weave-fewer k r d)
 
@@ -267,7 +267,7 @@ finish-later (suc k) n j r b hj hn = finishes-step k n j r b (is_some (end_of b.
 
 -- ---- calls, and lists of calls
 
-weave-plan : (k r : ℕ) (b : Begun) → (weave_at_most k r b).plan ≡ b.plan
+pub weave-plan : (k r : ℕ) (b : Begun) → (weave_at_most k r b).plan ≡ b.plan
 weave-plan zero r b = refl
 weave-plan (suc k) r b = plan-step k r b (least_mark b.waiting) (λ d. weave-plan k r d)
   where
@@ -301,12 +301,12 @@ settle-begun r (begun b) = refl
 settle-begun r (full call) = refl
 settle-begun r (told_of call) = refl
 
-settle-twice : (r m : ℕ) (s : Standing) → r ≤ m → IsSparse s → settle m (settle r s) ≡ settle m s
+pub settle-twice : (r m : ℕ) (s : Standing) → r ≤ m → IsSparse s → settle m (settle r s) ≡ settle m s
 settle-twice r m (begun b) le few = ap begun (weave-twice r m b le few)
 settle-twice r m (full call) le few = refl
 settle-twice r m (told_of call) le few = refl
 
-all-twice : (r m : ℕ) (xs : List Standing) → r ≤ m → AllByRecursion IsSparse xs → map (settle m) (map (settle r) xs) ≡ map (settle m) xs
+pub all-twice : (r m : ℕ) (xs : List Standing) → r ≤ m → AllByRecursion IsSparse xs → map (settle m) (map (settle r) xs) ≡ map (settle m) xs
 all-twice r m [] le few = refl
 all-twice r m (x ∷ xs) le few = ap (λ s. s ∷ map (settle m) (map (settle r) xs)) (settle-twice r m x le few.0) ∙ ap (λ ss. settle m x ∷ ss) (all-twice r m xs le few.1)
 
@@ -332,7 +332,7 @@ find-settled test r (x ∷ xs) same = by (test x) refl (find-settled test r xs s
 count-more : (x : Standing) (xs : List Standing) → count_by is_begun (x ∷ xs) ≡ cond (is_begun x) 1 0 + count_by is_begun xs
 count-more x xs = sum_by-cons (λ s. cond (is_begun s) 1 0) x xs
 
-count-settled : (r : ℕ) (xs : List Standing) → count_by is_begun (map (settle r) xs) ≡ count_by is_begun xs
+pub count-settled : (r : ℕ) (xs : List Standing) → count_by is_begun (map (settle r) xs) ≡ count_by is_begun xs
 count-settled r [] = refl
 count-settled r (x ∷ xs) =
     count-more (settle r x) (map (settle r) xs) ∙ ap (λ v. cond v 1 0 + count_by is_begun (map (settle r) xs)) (settle-begun r x) ∙ ap (λ n. cond (is_begun x) 1 0 + n) (count-settled r xs) ∙ sym (count-more x xs)
@@ -391,12 +391,12 @@ found-sparse test (x ∷ xs) few = elim (test x) as (λ v. SparseFound (cond v (
 is-call-settled : (call r : ℕ) (s : Standing) → is_call call (settle r s) ≡ is_call call s
 is-call-settled call r s = ap (λ n. n == call) (settle-number r s)
 
-event-line : (script : Script) (s : Replay) (m call : ℕ) (e : Event) → s.reached ≤ m → AreSparse s → settled (call_event (settled s) m call e) ≡ settled (call_event s m call e)
+pub event-line : (script : Script) (s : Replay) (m call : ℕ) (e : Event) → s.reached ≤ m → AreSparse s → settled (call_event (settled s) m call e) ≡ settled (call_event s m call e)
 event-line script s m call e le few =
     ap (λ (ss : List Standing). record { reached = m; calls = ss }) (change-settled (is_call call) (event_after e m) s.reached m s.calls (λ x. is-call-settled call s.reached x) (λ x sparse. event-settled e s.reached m x le sparse) le few)
 
 -- A join never takes a moment back.
-finish-late : (n r : ℕ) (b : Begun) → r ≤ (finish_at_most n r b).0
+pub finish-late : (n r : ℕ) (b : Begun) → r ≤ (finish_at_most n r b).0
 finish-late zero r b = omega arith
 finish-late (suc n) r b = by (is_some (end_of b.state)) (least_mark b.waiting) (λ s d. finish-late n s d)
   where
@@ -423,7 +423,7 @@ join-line s call few =
     ap (λ (k : ℕ). record { reached = k; calls = map (settle k) (change_first (is_call call) (joined r) (map (settle r) s.calls)) }) moment
     ∙ ap (λ (ss : List Standing). record { reached = m; calls = ss }) calls
 
-call-line : (script : Script) (s : Replay) (m call : ℕ) (text : List ℕ) (o : Option Plan) → s.reached ≤ m → AreSparse s → settled (call_after script (settled s) m call text o) ≡ settled (call_after script s m call text o)
+pub call-line : (script : Script) (s : Replay) (m call : ℕ) (text : List ℕ) (o : Option Plan) → s.reached ≤ m → AreSparse s → settled (call_after script (settled s) m call text o) ≡ settled (call_after script s m call text o)
 call-line script s m call text None le few = ap (λ (ss : List Standing). record { reached = m; calls = ss }) (all-twice s.reached m s.calls le few)
 call-line script s m call text (Some p) le few =
     ap (λ (ss : List Standing). record { reached = m; calls = ss })
@@ -432,7 +432,7 @@ call-line script s m call text (Some p) le few =
     ∙ ap (λ n. map (settle m) s.calls ++ settle m (stand_new (nat_le script.slots n) call p text m) ∷ []) (count-settled s.reached s.calls)
     ∙ sym (map-append (settle m) s.calls (stand_new (is_full script s) call p text m ∷ [])))
 
-after-settled : (script : Script) (s : Replay) (act : Act) → AreSparse s → settled (after script (settled s) act) ≡ settled (after script s act)
+pub after-settled : (script : Script) (s : Replay) (act : Act) → AreSparse s → settled (after script (settled s) act) ≡ settled (after script s act)
 unfolding after
 after-settled script s (Call at call chan text) few = call-line script s (max s.reached at) call text (plan script.chans chan call) (omega arith) few
 after-settled script s (Cancel at call) few = event-line script s (max s.reached at) call event.Cancel (omega arith) few
@@ -441,7 +441,7 @@ after-settled script s (Lose at call node attempt code) few = event-line script 
 after-settled script s (Tick at) few = ap (λ (ss : List Standing). record { reached = max s.reached at; calls = ss }) (all-twice s.reached (max s.reached at) s.calls (omega arith) few)
 after-settled script s (Join call) few = join-line s call few
 
-tells-same : (script : Script) (s : Replay) (act : Act) → AreSparse s → tells script (settled s) act ≡ tells script s act
+pub tells-same : (script : Script) (s : Replay) (act : Act) → AreSparse s → tells script (settled s) act ≡ tells script s act
 unfolding tells
 tells-same script s (Call at call chan text) few = ap (λ n. call_tells (nat_le script.slots n) call (plan script.chans chan call)) (count-settled s.reached s.calls)
 tells-same script s (Cancel at call) few = refl
@@ -453,16 +453,16 @@ tells-same script s (Join call) few =
 
 -- ---- no call has more marks than its plan may set
 
-apply-sparse : (b : Begun) (e : Event) (m : ℕ) → length b.waiting ≤ most_marks b.plan → length (apply b e m).waiting ≤ most_marks b.plan
+pub apply-sparse : (b : Begun) (e : Event) (m : ℕ) → length b.waiting ≤ most_marks b.plan → length (apply b e m).waiting ≤ most_marks b.plan
 apply-sparse b e m few = let same = ap length (ap (λ ms. b.waiting ++ ms) (step-sets b.plan b.call b.request b.state e m) ∙ append-nil b.waiting) in omega (arith, same, few)
 
-weave-sparse : (m : ℕ) (b : Begun) → length b.waiting ≤ most_marks b.plan → length (weave m b).waiting ≤ most_marks (weave m b).plan
+pub weave-sparse : (m : ℕ) (b : Begun) → length b.waiting ≤ most_marks b.plan → length (weave m b).waiting ≤ most_marks (weave m b).plan
 weave-sparse m b few =
     let same = weave-plan (most_marks b.plan) m b in
     let fewer = weave-fewer (most_marks b.plan) m b in
     subst (λ p. length (weave m b).waiting ≤ most_marks p) (sym same) (omega (arith, fewer, few))
 
-finish-fewer : (n r : ℕ) (b : Begun) (k : ℕ) (p : Plan) → length b.waiting ≤ k → b.plan ≡ p → (length (finish_at_most n r b).1.waiting ≤ k) × ((finish_at_most n r b).1.plan ≡ p)
+pub finish-fewer : (n r : ℕ) (b : Begun) (k : ℕ) (p : Plan) → length b.waiting ≤ k → b.plan ≡ p → (length (finish_at_most n r b).1.waiting ≤ k) × ((finish_at_most n r b).1.plan ≡ p)
 finish-fewer zero r b k p few is = (few, is)
 finish-fewer (suc n) r b k p few is = by (is_some (end_of b.state)) (least_mark b.waiting) refl (λ s d hd he. finish-fewer n s d k p hd he)
   where
@@ -475,12 +475,12 @@ finish-fewer (suc n) r b k p few is = by (is_some (end_of b.state)) (least_mark 
         let w : length (take_mark b mark others).waiting ≡ length others = ap length (taken-waits b mark others) in
         again (max r mark.moment) (take_mark b mark others) (omega (arith, l, w, few)) is
 
-settle-sparse : (m : ℕ) (s : Standing) → IsSparse s → IsSparse (settle m s)
+pub settle-sparse : (m : ℕ) (s : Standing) → IsSparse s → IsSparse (settle m s)
 settle-sparse m (begun b) few = weave-sparse m b few
 settle-sparse m (full call) few = tt
 settle-sparse m (told_of call) few = tt
 
-event-sparse : (e : Event) (m : ℕ) (s : Standing) → IsSparse s → IsSparse (event_after e m s)
+pub event-sparse : (e : Event) (m : ℕ) (s : Standing) → IsSparse s → IsSparse (event_after e m s)
 event-sparse e m (begun b) few = apply-sparse (weave m b) e m (weave-sparse m b few)
 event-sparse e m (full call) few = tt
 event-sparse e m (told_of call) few = tt
@@ -489,7 +489,7 @@ stand-sparse : (b : Begun) (end : Option End) → length b.waiting ≤ most_mark
 stand-sparse b None few = few
 stand-sparse b (Some end) few = tt
 
-joined-sparse : (r : ℕ) (s : Standing) → IsSparse s → IsSparse (joined r s)
+pub joined-sparse : (r : ℕ) (s : Standing) → IsSparse s → IsSparse (joined r s)
 joined-sparse r (begun b) few =
     let f = finish-fewer (most_marks b.plan) r b (most_marks b.plan) b.plan few refl in
     stand-sparse (finish r b).1 (end_of (finish r b).1.state) (subst (λ p. length (finish r b).1.waiting ≤ most_marks p) (sym f.1) f.0)
@@ -508,7 +508,7 @@ mark-few : (o : Option ℕ) (node moment : ℕ) (kind : MarkKind) → length (ma
 mark-few None node moment kind = omega arith
 mark-few (Some wait) node moment kind = omega arith
 
-begin-sparse : (call : ℕ) (p : Plan) (text : List ℕ) (m : ℕ) → length (begin call p text m).waiting ≤ most_marks p
+pub begin-sparse : (call : ℕ) (p : Plan) (text : List ℕ) (m : ℕ) → length (begin call p text m).waiting ≤ most_marks p
 begin-sparse call (leaf_plan leaf) text m =
     let d = mark-few leaf.timeout 0 m deadline in
     let b = mark-few leaf.backup 0 m backup in
@@ -545,7 +545,7 @@ settled-sparse s few = all-settle-sparse s.reached s.calls few
 
 -- ---- all lines
 
-same-lines : (script : Script) (acts : List Act) (s t : Replay) → AreSparse s → AreSparse t → settled s ≡ settled t → told_from script s acts ≡ told_from script t acts
+pub same-lines : (script : Script) (acts : List Act) (s t : Replay) → AreSparse s → AreSparse t → settled s ≡ settled t → told_from script s acts ≡ told_from script t acts
 same-lines script [] s t few few' e = refl
 same-lines script (act ∷ acts) s t few few' e =
     let tells_same : tells script s act ≡ tells script t act = sym (tells-same script s act few) ∙ ap (λ r. tells script r act) e ∙ tells-same script t act few' in

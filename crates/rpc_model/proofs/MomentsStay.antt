@@ -9,7 +9,7 @@ use Rattle.rpc_model.specs.declared.event.Event.TheVariants as event
 use Rattle.rpc_model.specs.declared.script.Script.{Script}
 use Rattle.rpc_model.specs.declared.script.Act.{Act}
 use Rattle.rpc_model.specs.declared.script.Act.TheVariants.{Call, Cancel, Reply, Lose, Tick, Join}
-use Rattle.rpc_model.specs.Fits.{IsPlain, IsPlainLeaf, IsWait, moment_of}
+use Rattle.rpc_model.specs.Fits.{IsChan, IsLeaf, IsWait, moment_of}
 use Rattle.rpc_model.specs.Leaf.{leaf_step}
 use Rattle.rpc_model.specs.Plan.{Plan, leaf_plan, plan}
 use Rattle.rpc_model.specs.Machine.{State, leaf_state, Mark, MarkKind, deadline, backup, step, step_at, is_at, leaf_run, quiet, end_of, mark_after}
@@ -132,31 +132,31 @@ calls-later : (b : ℕ) (calls : List Standing) → All (StandsBy b) calls → A
 calls-later b calls h = All-weaker (StandsBy b) (StandsBy (b + 2 ^ 31)) (stands-later b) calls h
 
 -- The plan of a channel of an accepted script has short waits.
-PlainPlan : ℕ → Option Plan → Type 0
-PlainPlan n None = Unit {0}
-PlainPlan n (Some (leaf_plan leaf)) = IsPlainLeaf n leaf
+LeafPlan : ℕ → Option Plan → Type 0
+LeafPlan n None = Unit {0}
+LeafPlan n (Some (leaf_plan leaf)) = IsLeaf n leaf
 
-plan-plain : (n : ℕ) (chans : List Chan) (number call : ℕ) → All (IsPlain n) chans → PlainPlan n (plan chans number call)
-unfolding PlainPlan
-plan-plain n [] number call h = tt
-plan-plain n (chan.Leaf leaf ∷ chans) zero call h = All-head (IsPlain n) (chan.Leaf leaf) chans h
-plan-plain n (x ∷ chans) (suc number) call h = plan-plain n chans number call (All-tail (IsPlain n) x chans h)
+plan-leaf : (n : ℕ) (chans : List Chan) (number call : ℕ) → All (IsChan n) chans → LeafPlan n (plan chans number call)
+unfolding LeafPlan
+plan-leaf n [] number call h = tt
+plan-leaf n (chan.Leaf leaf ∷ chans) zero call h = All-head (IsChan n) (chan.Leaf leaf) chans h
+plan-leaf n (x ∷ chans) (suc number) call h = plan-leaf n chans number call (All-tail (IsChan n) x chans h)
 
 mark_after-by : (b : ℕ) (o : Option ℕ) (node moment : ℕ) (kind : MarkKind) → moment ≤ b → IsWait o → All (MarkBy b) (mark_after o node moment kind)
 mark_after-by b None node moment kind early h = All-nil (MarkBy b)
 mark_after-by b (Some wait) node moment kind early h = All-cons (MarkBy b) _ [] (let short : wait < 2 ^ 31 = h in omega arith) (All-nil (MarkBy b))
 
-begin-by : (n b call : ℕ) (p : Plan) (text : List ℕ) (moment : ℕ) → moment ≤ b → PlainPlan n (Some p) → All (MarkBy b) (begin call p text moment).waiting
-unfolding PlainPlan
+begin-by : (n b call : ℕ) (p : Plan) (text : List ℕ) (moment : ℕ) → moment ≤ b → LeafPlan n (Some p) → All (MarkBy b) (begin call p text moment).waiting
+unfolding LeafPlan
 begin-by n b call (leaf_plan leaf) text moment early h =
     All-append (MarkBy b) (mark_after leaf.timeout 0 moment deadline) (mark_after leaf.backup 0 moment backup) (mark_after-by b leaf.timeout 0 moment deadline early h.timeout)
-    (rw h.alone (All-nil (MarkBy b)))
+    (mark_after-by b leaf.backup 0 moment backup early h.backup)
 
-stand_new-by : (n b : ℕ) (f : Bool) (call : ℕ) (p : Plan) (text : List ℕ) (moment : ℕ) → moment ≤ b → PlainPlan n (Some p) → StandsBy b (stand_new f call p text moment)
+stand_new-by : (n b : ℕ) (f : Bool) (call : ℕ) (p : Plan) (text : List ℕ) (moment : ℕ) → moment ≤ b → LeafPlan n (Some p) → StandsBy b (stand_new f call p text moment)
 stand_new-by n b true call p text moment early h = tt
 stand_new-by n b false call p text moment early h = begin-by n b call p text moment early h
 
-call_after-by : (n b : ℕ) (script : Script) (replay : Replay) (moment call : ℕ) (text : List ℕ) (o : Option Plan) → moment ≤ b → PlainPlan n o → IsBy b replay → IsBy (b + 2 ^ 31) (call_after script replay moment call text o)
+call_after-by : (n b : ℕ) (script : Script) (replay : Replay) (moment call : ℕ) (text : List ℕ) (o : Option Plan) → moment ≤ b → LeafPlan n o → IsBy b replay → IsBy (b + 2 ^ 31) (call_after script replay moment call text o)
 call_after-by n b script replay moment call text None early h by' = record { moment = omega arith; marks = calls-later b replay.calls by'.marks }
 call_after-by n b script replay moment call text (Some p) early h by' = record {
   moment = omega arith;
@@ -176,14 +176,14 @@ call_join-by b replay call by' = record {
 }
 
 -- A line whose moment is within the bound.
-pub after-by : (b : ℕ) (script : Script) (replay : Replay) (act : Act) → All (IsPlain script.servers) script.chans → moment_of act ≤ b → IsBy b replay → IsBy (b + 2 ^ 31) (after script replay act)
+pub after-by : (b : ℕ) (script : Script) (replay : Replay) (act : Act) → All (IsChan script.servers) script.chans → moment_of act ≤ b → IsBy b replay → IsBy (b + 2 ^ 31) (after script replay act)
 unfolding after
-after-by b script replay (Call at call chan text) plain early by' =
-    call_after-by script.servers b script replay (max replay.reached at) call text (plan script.chans chan call) (let m = by'.moment in omega arith) (plan-plain script.servers script.chans chan call plain) by'
-after-by b script replay (Cancel at call) plain early by' = call_event-by b replay (max replay.reached at) call event.Cancel (let m = by'.moment in omega arith) by'
-after-by b script replay (Reply at call node attempt code text) plain early by' =
+after-by b script replay (Call at call chan text) channels early by' =
+    call_after-by script.servers b script replay (max replay.reached at) call text (plan script.chans chan call) (let m = by'.moment in omega arith) (plan-leaf script.servers script.chans chan call channels) by'
+after-by b script replay (Cancel at call) channels early by' = call_event-by b replay (max replay.reached at) call event.Cancel (let m = by'.moment in omega arith) by'
+after-by b script replay (Reply at call node attempt code text) channels early by' =
     call_event-by b replay (max replay.reached at) call (event.Reply node attempt code text) (let m = by'.moment in omega arith) by'
-after-by b script replay (Lose at call node attempt code) plain early by' =
+after-by b script replay (Lose at call node attempt code) channels early by' =
     call_event-by b replay (max replay.reached at) call (event.Lost node attempt code) (let m = by'.moment in omega arith) by'
-after-by b script replay (Tick at) plain early by' = record { moment = (let m = by'.moment in omega arith); marks = calls-later b replay.calls by'.marks }
-after-by b script replay (Join call) plain early by' = call_join-by b replay call by'
+after-by b script replay (Tick at) channels early by' = record { moment = (let m = by'.moment in omega arith); marks = calls-later b replay.calls by'.marks }
+after-by b script replay (Join call) channels early by' = call_join-by b replay call by'

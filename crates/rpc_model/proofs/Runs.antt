@@ -52,11 +52,10 @@ machine-end plan call request begun events more end h =
     rw fold-append (run-end plan call request (machine plan call request begun events) more end h)
 
 -- A step of a leaf issues no attempt, or one where another is left.
-IssuesFew : ℕ → Leaf → Leaf → Type 0
+abbrev pub IssuesFew : ℕ → Leaf → Leaf → Type 0
 IssuesFew retry before now = (now.issued ≡ before.issued) ⊎ ((now.issued ≡ before.issued + 1) × (before.issued ≤ retry))
 
 failed-issues : (retry : ℕ) (leaf : Leaf) (attempt code : ℕ) → IssuesFew retry leaf (failed retry leaf attempt code)
-unfolding IssuesFew
 failed-issues retry leaf attempt code =
     elim (is_attempt leaf.older attempt) as (λ b. IssuesFew retry leaf (cond b (record leaf { older = None }) (cond (may_issue retry leaf && retriable code) (retried leaf) (ended leaf (Bad code))))) [
       | true ↦ inl refl
@@ -66,8 +65,7 @@ failed-issues retry leaf attempt code =
       ] refl
     ]
 
-leaf_step-issues : (retry : ℕ) (leaf : Leaf) (e : Event) → IssuesFew retry leaf (leaf_step retry leaf e)
-unfolding IssuesFew
+pub leaf_step-issues : (retry : ℕ) (leaf : Leaf) (e : Event) → IssuesFew retry leaf (leaf_step retry leaf e)
 leaf_step-issues retry leaf (Reply node attempt code text) =
     elim (is_live leaf attempt) as (λ b. IssuesFew retry leaf (cond b (answered retry leaf attempt code text) leaf)) [
       | true ↦ elim (code == 0) as (λ b. IssuesFew retry leaf (cond b (ended leaf (Good text)) (failed retry leaf attempt code))) [ true ↦ inl refl | false ↦ failed-issues retry leaf attempt code ]
@@ -101,13 +99,11 @@ sent-length leaf call node request before now same =
       | false ↦ λ none. grind arith
     ] refl
 
-few-issues : (retry : ℕ) (before now : Leaf) → IssuesFew retry before now → (now.issued ≡ before.issued) ⊎ (now.issued ≡ before.issued + 1)
-unfolding IssuesFew
+pub few-issues : (retry : ℕ) (before now : Leaf) → IssuesFew retry before now → (now.issued ≡ before.issued) ⊎ (now.issued ≡ before.issued + 1)
 few-issues retry before now (inl same) = inl same
 few-issues retry before now (inr more) = inr more.0
 
-few-bound : (retry : ℕ) (before now : Leaf) → IssuesFew retry before now → 1 ≤ before.issued → before.issued ≤ 1 + retry → (1 ≤ now.issued) × (now.issued ≤ 1 + retry)
-unfolding IssuesFew
+pub few-bound : (retry : ℕ) (before now : Leaf) → IssuesFew retry before now → 1 ≤ before.issued → before.issued ≤ 1 + retry → (1 ≤ now.issued) × (now.issued ≤ 1 + retry)
 few-bound retry before now (inl same) some few = (omega (arith, same), omega (arith, same))
 few-bound retry before now (inr more) some few = (omega (arith, more.0), omega (arith, more.0, more.1))
 

@@ -47,22 +47,22 @@ abbrev pub IsWait : Option ℕ → Type 0
 IsWait None = Unit {0}
 IsWait (Some wait) = wait < 2 ^ 31
 
--- a leaf over some of so many servers, without retry and backup request
-pub record IsPlainLeaf (servers : ℕ) (leaf : LeafChan) : Type 0 where
-  pub once : leaf.retry ≡ 0
-  pub alone : leaf.backup ≡ None
+-- a leaf over some of so many servers, with few retries
+pub record IsLeaf (servers : ℕ) (leaf : LeafChan) : Type 0 where
+  pub few_retries : leaf.retry ≤ 100
+  pub backup : IsWait leaf.backup
   pub timeout : IsWait leaf.timeout
   pub some_server : 1 ≤ length leaf.servers
   pub known_servers : All (λ server. server < servers) leaf.servers
 
-abbrev pub IsPlain : ℕ → Chan → Type 0
-IsPlain servers (chan.Leaf leaf) = IsPlainLeaf servers leaf
+abbrev pub IsChan : ℕ → Chan → Type 0
+IsChan servers (chan.Leaf leaf) = IsLeaf servers leaf
 
 pub record Fits (script : Script) : Type 0 where
   pub moments : All IsMoment script.acts
   pub acts : All (IsAct (length script.chans)) script.acts
   pub calls_differ : IsDistinct nat_eq (called script.acts)
-  pub channels : All (IsPlain script.servers) script.chans
+  pub channels : All (IsChan script.servers) script.chans
   pub lines : length script.acts ≤ 500000
   pub some_slot : 1 ≤ script.slots
   pub few_slots : script.slots ≤ 4096

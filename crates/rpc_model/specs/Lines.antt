@@ -88,7 +88,7 @@ with_leaf before name names retry backup timeout =
 unfoldable pub server_names : List ℕ → Option (List (List ℕ))
 server_names word = let names = slice_split (λ b. b == 44) word in if nat_le (length names) 16 && list_all is_name names then Some names else None
 
--- `leaf NAME SERVERS retry=0 backup=-1 timeout=T`
+-- `leaf NAME SERVERS retry=R backup=B timeout=T`
 unfoldable pub leaf_line : Before → List ℕ → List ℕ → List ℕ → List ℕ → List ℕ → Option Before
 leaf_line before name servers retry backup timeout = do
   _ ← guard (is_name name && is_none (index_of before.names name))
@@ -96,7 +96,6 @@ leaf_line before name servers retry backup timeout = do
   retries ← number_option (codes "retry=") 0 100 retry
   backup_wait ← wait_option (codes "backup=") backup
   timeout_wait ← wait_option (codes "timeout=") timeout
-  _ ← guard (retries == 0 && is_none backup_wait)
   _ ← guard (nat_lt (length before.names) 1000)
   _ ← guard (nat_le (length (mention_all before.servers names)) 16)
   Some (with_leaf before name names retries backup_wait timeout_wait)

@@ -9,7 +9,7 @@ use Rattle.rpc_model.specs.declared.script.Act.{Act}
 use Rattle.rpc_model.specs.declared.script.Act.TheVariants.{Call, Cancel, Reply, Lose, Tick, Join}
 use Rattle.rpc_model.specs.declared.told.Told.{Told}
 use Rattle.std.specs.declared.option.Option.{Option}
-use Rattle.rpc_model.specs.Fits.{IsPlain, IsMoment, moment_of, called}
+use Rattle.rpc_model.specs.Fits.{IsChan, IsMoment, moment_of, called}
 use Rattle.rpc_model.specs.Moments.{IsBy}
 use Rattle.rpc_model.specs.Told.{Replay, after, tells, told_from}
 use Rattle.rpc_model.proofs.MomentsStay.{after-by}
@@ -26,12 +26,12 @@ turn-tells script replay next so_far now all acts i act h item said n t =
     rw (t, n) (append_assoc so_far _ _ ∙ ap (λ (xs : List Told). so_far ++ xs) (sym more) ∙ said)
 
 -- The bound goes up by the longest wait.
-pub turn-early : (script : Script) (replay next : Replay) (acts : List Act) (i : ℕ) (act : Act) → i < length acts → act ≡ get_or acts i act → All (IsPlain script.servers) script.chans → All IsMoment acts
+pub turn-early : (script : Script) (replay next : Replay) (acts : List Act) (i : ℕ) (act : Act) → i < length acts → act ≡ get_or acts i act → All (IsChan script.servers) script.chans → All IsMoment acts
     → IsBy (2 ^ 53 + i * 2 ^ 31) replay → next ≡ after script replay act → IsBy (2 ^ 53 + (i + 1) * 2 ^ 31) next
-turn-early script replay next acts i act h item plain moments by' n =
+turn-early script replay next acts i act h item channels moments by' n =
     let low : moment_of act < 2 ^ 53 = rw item (All-get_or IsMoment acts i act h moments) in
     let e : 2 ^ 53 + i * 2 ^ 31 + 2 ^ 31 ≡ 2 ^ 53 + (i + 1) * 2 ^ 31 = omega arith in
-    rw n (subst (λ (b : ℕ). IsBy b (after script replay act)) e (after-by (2 ^ 53 + i * 2 ^ 31) script replay act plain (omega arith) by'))
+    rw n (subst (λ (b : ℕ). IsBy b (after script replay act)) e (after-by (2 ^ 53 + i * 2 ^ 31) script replay act channels (omega arith) by'))
 
 called-cons : (act : Act) (acts : List Act) → called (act ∷ acts) ≡ called (act ∷ []) ++ called acts
 called-cons (Call at call chan text) acts = refl

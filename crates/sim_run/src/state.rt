@@ -1,6 +1,6 @@
 ghost use Rattle.std.specs.Prelude.{◌≡◌, ℕ, ◌+◌, ◌*◌, ◌^◌, ◌<◌, ◌≤◌, List, [], ◌∷◌, ◌++◌, max, nat_eq, length, find, take, Option, None, Some, OnOk, OnErr, IfOk, All, false};
 ghost use Rattle.std.specs.Map.{keys_of, lookup};
-ghost use Rattle.rpc_model.specs.Fits.{Fits, IsAct, IsMoment, IsPlain, IsPlainLeaf, called};
+ghost use Rattle.rpc_model.specs.Fits.{Fits, IsAct, IsMoment, IsChan, IsLeaf, called};
 ghost use Rattle.rpc_model.specs.Machine.{server_of};
 ghost use Rattle.rpc_model.specs.Plan.{leaf_plan, plan};
 ghost use Rattle.rpc_model.specs.Told as spec;
@@ -319,9 +319,9 @@ impl Replay {
 /// The plain channel of this number.
 fn leaf_of(script: &Script, chan: u32) -> &LeafChan
     requires chan { chan < length script.now.chans }
-    requires channels { All (IsPlain script.now.servers) script.now.chans }
+    requires channels { All (IsChan script.now.servers) script.now.chans }
     ensures plan { (call : ℕ) → plan script.now.chans chan call ≡ Some (leaf_plan result.now) }
-    ensures plain { IsPlainLeaf script.now.servers result.now }
+    ensures leaf { IsLeaf script.now.servers result.now }
 {
     let Chan::Leaf(leaf) = &script.chans.list()[chan as usize];
     leaf

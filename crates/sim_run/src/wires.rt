@@ -4,7 +4,7 @@ ghost use Rattle.std.specs.Prelude.{◌≡◌, ◌+◌, ◌^◌, ◌<◌, ◌≤
 ghost use Rattle.std.specs.List.{AllByRecursion};
 ghost use Rattle.id_pool.specs.Ranges.{Slot};
 ghost use Rattle.link_core.specs.Outstanding.{is_outstanding};
-ghost use Rattle.rpc_model.specs.Fits.{IsPlain};
+ghost use Rattle.rpc_model.specs.Fits.{IsChan};
 ghost use Rattle.rpc_model.specs.Marks.{Begun};
 ghost use Rattle.sim_run.specs.Desk.{IsWire};
 ghost use Rattle.sim_run.specs.Wires.{IsChangedAt, sent, received, server_on};
@@ -29,7 +29,7 @@ pub(crate) fn open_wires(alloc: Global, servers: u32) -> Result<Vec<Wire>, NoMem
 /// The server of an attempt of a call on this channel: the attempts of a call go round the channel's servers.
 pub(crate) fn server_on(script: &Script, chan: u32, call: u32, attempt: u32) -> u32
     requires chan { chan < length script.now.chans }
-    requires channels { All (IsPlain script.now.servers) script.now.chans }
+    requires channels { All (IsChan script.now.servers) script.now.chans }
     ensures value { result ≡ server_on script.now.chans chan call attempt }
     ensures bound { result < script.now.servers }
 {

@@ -9,59 +9,59 @@ use Rattle.sim_run.proofs.state.Replay.call.Goals as goal
 
 pub returns-in_default-clause-ready : goal.returns-in_default-clause-ready
 returns-in_default-clause-ready c =
-    let once = c.leaf_of-leaf.ensures.plain.once in
-    let n = no-place c.args.self.now.pool (c.leaf_of-leaf.result.now.retry + 2) c.begin-open.result (omega arith) (omega (arith, once)) c.in_default.ensures.first in
+    let few = c.leaf_of-leaf.ensures.leaf.few_retries in
+    let n = no-place c.args.self.now.pool (c.leaf_of-leaf.result.now.retry + 2) c.begin-open.result (omega arith) (omega (arith, few)) c.in_default.ensures.first in
     let same = c.in_ok-refuse.ensures.same in
     full-ready c.args.self.now c.refuse.new.self c.args.script.now c.args.call c.requires.ready (same.0 ∙ c.in_default.ensures.after ∙ n.1) same.2 c.in_ok-refuse.ensures.calls c.in_ok-refuse.ensures.once
 
 pub returns-in_default-clause-after : goal.returns-in_default-clause-after
 returns-in_default-clause-after c =
-    let once = c.leaf_of-leaf.ensures.plain.once in
-    let n = no-place c.args.self.now.pool (c.leaf_of-leaf.result.now.retry + 2) c.begin-open.result (omega arith) (omega (arith, once)) c.in_default.ensures.first in
+    let few = c.leaf_of-leaf.ensures.leaf.few_retries in
+    let n = no-place c.args.self.now.pool (c.leaf_of-leaf.result.now.retry + 2) c.begin-open.result (omega arith) (omega (arith, few)) c.in_default.ensures.first in
     let same = c.in_ok-refuse.ensures.same in
     full-after c.args.self.now c.refuse.new.self c.args.script.now c.args.moment c.args.call c.args.text.now (leaf_plan c.leaf_of-leaf.result.now) _ (c.leaf_of-leaf.ensures.plan c.args.call) c.requires.ready n.0 (same.0 ∙ c.in_default.ensures.after ∙ n.1) same.1
     c.in_ok-refuse.ensures.calls c.in_ok-refuse.ensures.once
 
 pub returns-in_default-clause-tells : goal.returns-in_default-clause-tells
 returns-in_default-clause-tells c =
-    let once = c.leaf_of-leaf.ensures.plain.once in
-    let n = no-place c.args.self.now.pool (c.leaf_of-leaf.result.now.retry + 2) c.begin-open.result (omega arith) (omega (arith, once)) c.in_default.ensures.first in
+    let few = c.leaf_of-leaf.ensures.leaf.few_retries in
+    let n = no-place c.args.self.now.pool (c.leaf_of-leaf.result.now.retry + 2) c.begin-open.result (omega arith) (omega (arith, few)) c.in_default.ensures.first in
     rw (full-tells c.args.self.now c.args.script.now c.args.call _ (leaf_plan c.leaf_of-leaf.result.now) (c.leaf_of-leaf.ensures.plan c.args.call) c.requires.ready n.0) c.in_ok-refuse.ensures.tells
 
 pub begin-requires-clause-id : goal.begin-requires-clause-id
 begin-requires-clause-id c =
-    let once = c.leaf_of-leaf.ensures.plain.once in
-    let p = place c.args.self.now.pool (c.leaf_of-leaf.result.now.retry + 2) c.in-Some.first c.begin-open.result (omega arith) (omega (arith, once)) c.in-Some.ensures.first in
+    let few = c.leaf_of-leaf.ensures.leaf.few_retries in
+    let p = place c.args.self.now.pool (c.leaf_of-leaf.result.now.retry + 2) c.in-Some.first c.begin-open.result (omega arith) (omega (arith, few)) c.in-Some.ensures.first in
     first-low c.args.self.now c.args.script.now (c.leaf_of-leaf.result.now.retry + 2) c.in-Some.first c.begin-open.result c.requires.ready c.requires.few c.requires.fits.few_slots p
 
 pub begin-requires-clause-silent : goal.begin-requires-clause-silent
 begin-requires-clause-silent c =
-    let once = c.leaf_of-leaf.ensures.plain.once in
-    let p = place c.args.self.now.pool (c.leaf_of-leaf.result.now.retry + 2) c.in-Some.first c.begin-open.result (omega arith) (omega (arith, once)) c.in-Some.ensures.first in
+    let few = c.leaf_of-leaf.ensures.leaf.few_retries in
+    let p = place c.args.self.now.pool (c.leaf_of-leaf.result.now.retry + 2) c.in-Some.first c.begin-open.result (omega arith) (omega (arith, few)) c.in-Some.ensures.first in
     first-silent c.args.self.now c.args.script.now (c.leaf_of-leaf.result.now.retry + 2) c.in-Some.first c.begin-open.result c.requires.ready c.requires.few p
 
 pub returns-clause-ready : goal.returns-clause-ready
 returns-clause-ready c =
-    let once = c.leaf_of-leaf.ensures.plain.once in
-    let p = place c.args.self.now.pool (c.leaf_of-leaf.result.now.retry + 2) c.in-Some.first c.begin-open.result (omega arith) (omega (arith, once)) c.in-Some.ensures.first in
+    let few = c.leaf_of-leaf.ensures.leaf.few_retries in
+    let p = place c.args.self.now.pool (c.leaf_of-leaf.result.now.retry + 2) c.in-Some.first c.begin-open.result (omega arith) (omega (arith, few)) c.in-Some.ensures.first in
     let same = c.in_ok-begin.ensures.same in
-    call-ready c.args.self.now c.begin.new.self c.args.script.now c.args.call (c.leaf_of-leaf.result.now.retry + 2) c.in-Some.first c.args.chan _ c.in_ok-text.text c.begin-open.result c.requires.ready c.requires.few (omega arith) (omega (arith, once))
+    call-ready c.args.self.now c.begin.new.self c.args.script.now c.args.call (c.leaf_of-leaf.result.now.retry + 2) c.in-Some.first c.args.chan _ c.in_ok-text.text c.begin-open.result c.requires.ready c.requires.few (omega arith) (omega (arith, few))
     (ap (λ b. b.call) c.begin-open.ensures) c.requires.chan p (same.0 ∙ c.in-Some.ensures.after) c.in_ok-begin.ensures.calls c.in_ok-begin.ensures.once c.in_ok-begin.ensures.sent
 
 pub returns-clause-after : goal.returns-clause-after
 returns-clause-after c =
-    let once = c.leaf_of-leaf.ensures.plain.once in
+    let few = c.leaf_of-leaf.ensures.leaf.few_retries in
     let same = c.in_ok-begin.ensures.same in
     let leaf = c.leaf_of-leaf.result.now in
     let is : c.begin-open.result ≡ begin c.args.call (leaf_plan leaf) c.args.text.now c.args.moment =
     c.begin-open.ensures ∙ ap (λ l. begin c.args.call (leaf_plan l) c.in_ok-clone_bytes.field-0 c.args.moment) c.in_ok-owned.ensures ∙ ap (λ t. begin c.args.call (leaf_plan leaf) t c.args.moment) c.in_ok-clone_bytes.ensures in
-    let p = place c.args.self.now.pool (leaf.retry + 2) c.in-Some.first (begin c.args.call (leaf_plan leaf) c.args.text.now c.args.moment) (omega arith) (omega (arith, once)) c.in-Some.ensures.first in
-    call-after c.args.self.now c.begin.new.self c.args.script.now c.args.moment c.args.call (leaf.retry + 2) c.in-Some.first c.args.chan c.args.text.now (leaf_plan leaf) _ (c.leaf_of-leaf.ensures.plan c.args.call) c.requires.ready c.requires.few (omega arith) (omega (arith, once)) p
+    let p = place c.args.self.now.pool (leaf.retry + 2) c.in-Some.first (begin c.args.call (leaf_plan leaf) c.args.text.now c.args.moment) (omega arith) (omega (arith, few)) c.in-Some.ensures.first in
+    call-after c.args.self.now c.begin.new.self c.args.script.now c.args.moment c.args.call (leaf.retry + 2) c.in-Some.first c.args.chan c.args.text.now (leaf_plan leaf) _ (c.leaf_of-leaf.ensures.plan c.args.call) c.requires.ready c.requires.few (omega arith) (omega (arith, few)) p
     (same.0 ∙ c.in-Some.ensures.after ∙ ap (λ b. created (leaf.retry + 2) b c.args.self.now.pool) is) c.in_ok-begin.ensures.calls c.in_ok-begin.ensures.once same.1
 
 pub returns-clause-tells : goal.returns-clause-tells
 returns-clause-tells c =
-    let once = c.leaf_of-leaf.ensures.plain.once in
-    let p = place c.args.self.now.pool (c.leaf_of-leaf.result.now.retry + 2) c.in-Some.first c.begin-open.result (omega arith) (omega (arith, once)) c.in-Some.ensures.first in
+    let few = c.leaf_of-leaf.ensures.leaf.few_retries in
+    let p = place c.args.self.now.pool (c.leaf_of-leaf.result.now.retry + 2) c.in-Some.first c.begin-open.result (omega arith) (omega (arith, few)) c.in-Some.ensures.first in
     rw (call-tells c.args.self.now c.args.script.now c.args.call (c.leaf_of-leaf.result.now.retry + 2) c.in-Some.first c.begin-open.result _ (leaf_plan c.leaf_of-leaf.result.now) (c.leaf_of-leaf.ensures.plan c.args.call) c.requires.ready p)
     (sym (append-nil c.args.told.now.items))
