@@ -62,6 +62,11 @@ fn accepted_lines(rt: HostRuntime) -> Result<(), Fail> {
         "leaf 9 56789 retry=0 backup=-1 timeout=1",
         "at 5 lose 1 0#0 1",
         "at 9007199254740991 lose 1 0#0 65535",
+        // A retry limit and a backup request: one, both, the greatest.
+        "leaf y b retry=1 backup=-1 timeout=1",
+        "leaf y b retry=0 backup=1 timeout=1",
+        "leaf y b retry=3 backup=500 timeout=500",
+        "leaf y b,c retry=100 backup=2147483647 timeout=-1",
         // Servers: two, one twice, 16, 16 with one twice, 15 new ones beside the one before.
         "leaf y a,b retry=0 backup=-1 timeout=1",
         "leaf y a,a retry=0 backup=-1 timeout=1",
@@ -99,9 +104,23 @@ fn refused_lines(rt: HostRuntime) -> Result<(), Fail> {
         "leaf y b retry=0 backup=-1 time=1",
         "leaf y b retry=0=0 backup=-1 timeout=1",
         "leaf y b backup=-1 retry=0 timeout=1",
+        // A retry limit: one past it, a sign, a leading zero, none, another key.
+        "leaf y b retry=101 backup=-1 timeout=1",
+        "leaf y b retry=-1 backup=-1 timeout=1",
+        "leaf y b retry=01 backup=-1 timeout=1",
+        "leaf y b retry= backup=-1 timeout=1",
+        "leaf y b retry backup=-1 timeout=1",
+        "leaf y b retries=1 backup=-1 timeout=1",
+        // A backup request: no wait, one past the limit, another sign, a leading zero, none, another key.
+        "leaf y b retry=1 backup=0 timeout=1",
+        "leaf y b retry=1 backup=2147483648 timeout=1",
+        "leaf y b retry=1 backup=-2 timeout=1",
+        "leaf y b retry=1 backup=+1 timeout=1",
+        "leaf y b retry=1 backup=01 timeout=1",
+        "leaf y b retry=1 backup= timeout=1",
+        "leaf y b retry=1 backup timeout=1",
+        "leaf y b retry=1 back=1 timeout=1",
         // Not built so far.
-        "leaf y b retry=1 backup=-1 timeout=1",
-        "leaf y b retry=0 backup=1 timeout=1",
         "sel s retry=0 timeout=-1 x",
         // Names: 33 characters, upper case, another character, none.
         "leaf abcdefghijklmnopqrstuvwxyz_012345 b retry=0 backup=-1 timeout=1",
@@ -173,6 +192,31 @@ fn refused_lines(rt: HostRuntime) -> Result<(), Fail> {
     Ok(())
 }
 
+/// An attempt may be named up to the retry limit of its call's channel, whether it was sent or not.
+#[test]
+fn attempts(rt: HostRuntime) -> Result<(), Fail> {
+    let front =
+        "leaf x a,b retry=2 backup=-1 timeout=5\nleaf y a retry=100 backup=1 timeout=-1\nat 0 call 1 x hi\nat 0 call 2 y hi\n";
+    for (line, bad) in [
+        ("at 5 reply 1 0#2 0 abc", None),
+        ("at 5 lose 1 0#2 1009", None),
+        ("at 5 reply 2 0#100 0 abc", None),
+        ("at 5 lose 2 0#100 1009", None),
+        ("at 5 reply 1 0#3 0 abc", Some(5)),
+        ("at 5 lose 1 0#3 1009", Some(5)),
+        ("at 5 reply 2 0#101 0 abc", Some(5)),
+        ("at 5 lose 2 0#101 1009", Some(5)),
+        ("at 5 lose 1 1#0 1009", Some(5)),
+        ("at 5 reply 1 0#02 0 abc", Some(5)),
+        ("at 5 reply 2 0#4294967296 0 abc", Some(5)),
+    ] {
+        let mut bytes = Vec::from_slice(rt.alloc(), front.as_bytes())?;
+        bytes.extend_from_slice(line.as_bytes())?;
+        assert_eq!(rt; bad_line(rt.alloc(), &bytes), bad, "at {line}");
+    }
+    Ok(())
+}
+
 #[test]
 fn open_lines(rt: HostRuntime) -> Result<(), Fail> {
     for (text, wanted) in [
@@ -207,9 +251,10 @@ fn open_lines(rt: HostRuntime) -> Result<(), Fail> {
 }
 
 #[test]
-fn server_lists(rt: HostRuntime) -> Result<(), Fail> {
+fn typed_channels(rt: HostRuntime) -> Result<(), Fail> {
     let alloc = rt.alloc();
-    let text = "leaf w c retry=0 backup=-1 timeout=1\nleaf x a,c,b,a retry=0 backup=-1 timeout=1\n";
+    let text =
+        "leaf w c retry=0 backup=-1 timeout=1\nleaf x a,c,b,a retry=7 backup=30 timeout=-1\n";
     let script = read_script(alloc, Mode::Sim, text.as_bytes())
         .ok()
         .ok_or("the script is good")?;
@@ -219,6 +264,10 @@ fn server_lists(rt: HostRuntime) -> Result<(), Fail> {
         return Err("there is a second channel".into());
     };
     assert_eq!(rt; leaf.servers.list(), [1, 0, 2, 1].as_slice());
+    assert_eq!(rt;
+        (leaf.retry, leaf.backup, leaf.timeout),
+        (7, Some(30), None)
+    );
     // The 17th server comes in a later line.
     let mut text = Vec::from_slice(
         alloc,
