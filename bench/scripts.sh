@@ -1,7 +1,7 @@
 #!/usr/bin/env bash
 # Times the built program on scripts of 10,000 and 100,000 calls, each with replies or losses, and a join. It tells the
 # middle one of three times and, where /usr/bin/time is there, the most memory.
-set -eu
+set -euo pipefail
 cd "$(dirname "$0")/.." || exit 1
 program=crates/brpc_run/out/brpc_run
 [ -x "$program" ] || { echo "build the program first: make"; exit 1; }
@@ -69,7 +69,7 @@ retried_open() {
 run() {
     local start
     start=$(date +%s%N)
-    "$program" sim <"$folder/script" >"$folder/out"
+    "$program" sim <"$folder/script" >"$folder/out" || return 1
     echo $(($(date +%s%N) - start))
 }
 
@@ -84,7 +84,7 @@ for kind in one_by_one many_open lost retried retried_open; do
     for calls in 10000 100000; do
         "$kind" "$calls" >"$folder/script"
         bytes=$(stat -c %s "$folder/script")
-        middle=$({ run; run; run; } | sort -n | sed -n 2p)
+        middle=$({ run && run && run; } | sort -n | sed -n 2p)
         spent=$(awk -v ns="$middle" -v bytes="$bytes" 'BEGIN { printf "%.1f ms, %.1f ns a byte", ns / 1000000, ns / bytes }')
         ended=$(grep -c -E ' (ok 1 abc|ok 3 abc|fail 1009 1)$' "$folder/out")
         echo "$kind $calls: $bytes bytes, $spent,$(memory) $ended calls ended as they should"
