@@ -1,5 +1,5 @@
 -- The bounds that hold of every accepted script. They follow from the limits of its lines.
-use Rattle.std.specs.Prelude.{◌≡◌, ℕ, ◌^◌, ◌<◌, ◌≤◌, nat_eq, List, [], ◌∷◌, All, length, Option, None, Some}
+use Rattle.std.specs.Prelude.{ℕ, ◌^◌, ◌<◌, ◌≤◌, nat_eq, List, [], ◌∷◌, All, length, Option, None, Some}
 use Rattle.std.specs.List.{IsDistinct}
 use Rattle.rpc_model.specs.declared.chan.Chan.{Chan}
 use Rattle.rpc_model.specs.declared.chan.Chan.TheVariants as chan

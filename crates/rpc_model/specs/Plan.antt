@@ -22,3 +22,7 @@ nodes (leaf_plan leaf) = 1
 -- how many attempts the leaves may issue together
 abbrev pub possible_attempts : Plan → ℕ
 possible_attempts (leaf_plan leaf) = leaf.retry + 1
+
+-- how many versions a call's range has: one for each node, and one for each attempt that the leaves may issue
+abbrev pub width : Plan → ℕ
+width p = nodes p + possible_attempts p

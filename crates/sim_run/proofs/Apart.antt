@@ -2,6 +2,7 @@
 use Rattle.std.proofs.Common.{◌≡◌, ◌≢◌, ℕ, zero, suc, ◌+◌, ◌-◌, ◌/◌, ◌^◌, ◌<◌, ◌≤◌, ◌⊎◌, inl, inr, leb, ltb, ◌&&◌, false, if◌then◌else◌, List, [], ◌∷◌, length, slice_get, Option, None, Some, ap, sym, refl, ◌∙◌, subst, arith}
 use Rattle.std.proofs.lemmas.Bool.{cases_lt}
 use Rattle.std.proofs.lemmas.Bool.Decides.{nat_tests}
+use Rattle.rpc_model.specs.Machine.{attempts}
 use Rattle.rpc_model.specs.Marks.{Begun}
 use Rattle.id_pool.specs.Ids.{one_less, slot_of, version_of}
 use Rattle.id_pool.specs.Ranges.{Slot, Vacant, Retired, Taken, Range, offset, seen, seen_at, seen_in, look, slot_at, change}
@@ -30,10 +31,10 @@ offset-before r v h =
 pub seen-before : {T : Type 0} (r : Range T) (v : ℕ) → v < r.first → value_says (seen v (Taken r)) ≡ None
 seen-before r v h = ap (λ o. value_says (seen_at r o r.standing)) (offset-before r v h)
 
--- what a call's step may make of a slot: the same range again, none once that has left, or a new one
+-- what a call's step may make of a slot: the same range again with no fewer attempts, none once that has left, or a new one
 abbrev pub IsNext : Slot Begun → Slot Begun → Type 0
-IsNext (Taken r) (Taken s) = (s.first ≡ r.first) × (s.size ≡ r.size)
-IsNext (Taken r) (Vacant next) = next ≡ r.first + r.size
+IsNext (Taken r) (Taken s) = (s.first ≡ r.first) × (s.size ≡ r.size) × (attempts r.value.state ≤ attempts s.value.state)
+IsNext (Taken r) (Vacant next) = (next ≡ r.first + r.size) × (attempts r.value.state < r.size)
 IsNext (Vacant next) (Taken s) = s.first ≡ next
 IsNext s t = ⊥
 
@@ -56,7 +57,7 @@ aside-slot range (Taken r) (Taken s) some next of aside =
     (seen-before s (version_of range.first) (omega (arith, b, some)) ∙ sym (seen-before r (version_of range.first) (omega (arith, before, some))), inr b)
 aside-slot range (Taken r) (Vacant n) some next of aside =
     let before = aside-taken range r some of aside in
-    (sym (seen-before r (version_of range.first) (omega (arith, before, some))), omega (arith, before, next))
+    (sym (seen-before r (version_of range.first) (omega (arith, before, some))), omega (arith, before, next.0))
 aside-slot range (Vacant n) (Taken s) some next of aside =
     let b : version_of range.first + range.width ≤ s.first = omega (arith, of, next) in
     (seen-before s (version_of range.first) (omega (arith, b, some)), inr b)
@@ -65,13 +66,13 @@ aside-slot range (Vacant n) (Vacant m) some next of aside = absurd next
 aside-slot range (Vacant n) Retired some next of aside = absurd next
 aside-slot range Retired t some next of aside = absurd of
 
-same_or : (i j : ℕ) → (i ≡ j) ⊎ (i ≢ j)
+pub same_or : (i j : ℕ) → (i ≡ j) ⊎ (i ≢ j)
 same_or i j = elim (cases_lt i j) [
   | inl l ↦ inr (λ e. omega (arith, l, e))
   | inr g ↦ elim (cases_lt j i) [ inl l ↦ inr (λ e. omega (arith, l, e)) | inr h ↦ inl (omega (arith, g, h)) ]
 ]
 
-slice_get-other : {T : Type 0} (i j : ℕ) (f : Slot T → Slot T) (slots : List (Slot T)) → i ≢ j → slice_get (change i f slots) j ≡ slice_get slots j
+pub slice_get-other : {T : Type 0} (i j : ℕ) (f : Slot T → Slot T) (slots : List (Slot T)) → i ≢ j → slice_get (change i f slots) j ≡ slice_get slots j
 slice_get-other i j f [] h = refl
 slice_get-other zero zero f (s ∷ ss) h = absurd (h refl)
 slice_get-other zero (suc j) f (s ∷ ss) h = refl
@@ -118,8 +119,8 @@ pub stands-aside : (slots after : List (Slot Begun)) (call : ℕ) (range : Ticke
 stands-aside slots after call range i f s e at next known aside = aside-at slots after call range (slot_of range.first) i f s refl e at next known aside
 
 past-slot : (v : ℕ) (s t : Slot Begun) → IsNext s t → IsPastIn v (Some s) → IsPastIn v (Some t)
-past-slot v (Taken r) (Taken s) next h = omega (arith, h, next.0, next.1)
-past-slot v (Taken r) (Vacant n) next h = omega (arith, h, next)
+past-slot v (Taken r) (Taken s) next h = omega (arith, h, next.0, next.2)
+past-slot v (Taken r) (Vacant n) next h = omega (arith, h, next.0, next.1)
 past-slot v (Vacant n) (Taken s) next h = omega (arith, h, next)
 past-slot v (Taken r) Retired next h = absurd next
 past-slot v (Vacant n) (Vacant m) next h = absurd next

@@ -6,7 +6,9 @@ use Rattle.std.proofs.lemmas.List.Sums.{sum_by-append, count_by-le-length}
 use Rattle.std.proofs.lemmas.Map.Keys.{IsDistinct-cons, IsDistinct-head, IsDistinct-tail}
 use Rattle.std.specs.List.{IsDistinct, AllByRecursion}
 use Rattle.std.specs.Map.{keys_of}
-use Rattle.rpc_model.specs.Marks.{Begun}
+use Rattle.rpc_model.specs.Plan.{possible_attempts, width as plan_width}
+use Rattle.rpc_model.specs.Machine.{attempts}
+use Rattle.rpc_model.specs.Marks.{Begun, most_marks}
 use Rattle.rpc_model.specs.Told.{Standing, begun, full, is_begun}
 use Rattle.id_pool.specs.Ids.{make_id, slot_of, version_of}
 use Rattle.id_pool.specs.Ranges.{Slot, Vacant, Retired, Taken, Free, look, lowest, later, offset, change, fresh, slot_at}
@@ -93,7 +95,7 @@ length-snoc entries e = length-append entries (e ∷ [])
 slot-later : (n m : ℕ) (s : Slot Begun) → n ≤ m → IsSlot n s → IsSlot m s
 slot-later n m (Vacant next) le h = omega (arith, le, h)
 slot-later n m Retired le h = h
-slot-later n m (Taken r) le h = (let top = h.0 in omega (arith, le, top), h.1)
+slot-later n m (Taken r) le h = record { below = (let top = h.below in omega (arith, le, top)); free = h.free; few_marks = h.few_marks; sized = h.sized; few_attempts = h.few_attempts }
 
 count-snoc : {X : Type 0} (p : X → Bool) (xs : List X) (x : X) → count_by p (xs ++ x ∷ []) ≡ count_by p xs + one (p x)
 count-snoc p xs x = let a = sum_by-append (λ y. cond (p y) 1 0) xs (x ∷ []) in let c = count-cons p x [] in omega (arith, a, c)
@@ -151,9 +153,10 @@ full-begins slots entries call sound numbers =
 
 -- A call that takes a vacant slot.
 pub call-begins : (slots : List (Slot Begun)) (entries : List (ℕ × Option Ticket)) (call i next width chan : ℕ) (b : Begun) → IsSound slots entries → length entries ≤ 500000 → slice_get slots i ≡ Some (Vacant next)
-    → 1 ≤ width → width ≤ 1024 → b.call ≡ call → IsDistinct nat_eq (keys_of (entries ++ (call, Some (record { first = make_id i next; width = width; chan = chan })) ∷ []))
+    → width ≡ plan_width b.plan → 1 ≤ width → width ≤ 1024 → b.call ≡ call → attempts b.state ≤ possible_attempts b.plan → length b.waiting ≤ most_marks b.plan
+    → IsDistinct nat_eq (keys_of (entries ++ (call, Some (record { first = make_id i next; width = width; chan = chan })) ∷ []))
     → Joined slots (change i (λ s. Taken (fresh next width b)) slots) entries call (Some (record { first = make_id i next; width = width; chan = chan })) (begun b)
-call-begins slots entries call i next width chan b sound few at some most number numbers =
+call-begins slots entries call i next width chan b sound few at sized some most number few_attempts few_marks numbers =
     let t = Taken (fresh next width b) in
     let g : Slot Begun → Slot Begun = λ s. t in
     let after = change i g slots in
@@ -179,7 +182,7 @@ call-begins slots entries call i next width chan b sound few at some most number
         known = All-snoc (λ entry. IsKnown after entry.0 entry.1) entries (call, Some range) others.1 (some, subst (IsOfSlot range) (sym at_new) (inl (version, refl)), subst (IsNumbered call) (sym looks) number);
         open_slots = All-change (IsSlot (1 + 1024 * length (entries ++ (call, Some range) ∷ []))) i g slots
             (All-weaken (IsSlot (1 + 1024 * length entries)) (IsSlot (1 + 1024 * length (entries ++ (call, Some range) ∷ []))) slots (λ s h. slot-later _ _ s (omega (arith, more)) h) sound.open_slots)
-            (λ s e h. (omega (arith, top, most, more), refl));
+            (λ s e h. record { below = omega (arith, top, most, more); free = refl; few_marks = few_marks; sized = sized; few_attempts = few_attempts });
         counted = ap (count_by is_begun) stands ∙ count-snoc is_begun (standings slots entries) (begun b) ∙ omega (arith, sound.counted, places);
       };
       past = λ id h. past-change i g slots (Vacant next) id at refl h;

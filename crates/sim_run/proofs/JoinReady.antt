@@ -7,7 +7,15 @@ use Rattle.rpc_model.specs.declared.told.Told.TheVariants.{Gone}
 use Rattle.rpc_model.specs.Told as spec
 use Rattle.sim_run.specs.declared.ticket.Ticket.{Ticket}
 use Rattle.sim_run.specs.declared.state.Replay.{Replay}
+use Rattle.rpc_model.specs.Marks.{Begun}
+use Rattle.id_pool.specs.Ids.{version_of}
+use Rattle.id_pool.specs.Ranges.{Slot, look, changed}
+use Rattle.sim_run.specs.Link.{Link}
+use Rattle.sim_run.specs.Slots.{finished, join}
+use Rattle.sim_run.specs.Sends.{issue_by}
 use Rattle.sim_run.specs.Desk.{standings, IsReady, replay_of}
+use Rattle.sim_run.proofs.Brings.{Brings}
+use Rattle.sim_run.proofs.JoinWired.{join-leaves}
 use Rattle.sim_run.proofs.Steps.{Follows}
 use Rattle.sim_run.proofs.JoinSteps.{JoinFollows, join-moved, join-full, join-absent, join-idle}
 
@@ -54,3 +62,13 @@ joins-full script old call ready full =
 -- The call has a ticket.
 pub joins-ticket : (script : Script) (old : Replay) (call : ℕ) (ticket : Ticket) → IsReady script old → length old.calls.entries ≤ 500000 → Some (Some ticket) ≡ lookup (nat_eq call) old.calls.entries → JoinFollows old.reached old.pool old.calls.entries call ticket.first
 joins-ticket script old call ticket ready few found = join-moved old.reached old.pool old.calls.entries call ticket ready.sound few (sym found)
+
+-- What such a join leaves of slots, wires and marks.
+pub join-brings : (script : Script) (old : Replay) (after : List (Slot Begun)) (wires : List Link) (call : ℕ) (ticket : Ticket) → IsReady script old → length old.calls.entries ≤ 500000 → Some (Some ticket) ≡ lookup (nat_eq call) old.calls.entries
+    → Follows old.pool (changed (join old.reached (version_of ticket.first)) ticket.first old.pool) old.calls.entries call (spec.joined old.reached) → after ≡ changed (join old.reached (version_of ticket.first)) ticket.first old.pool
+    → wires ≡ issue_by ticket.first (finished old.reached) (look ticket.first old.pool) old.wires.items → Brings script.servers old.pool after wires old.marks old.calls.entries call (spec.joined old.reached)
+join-brings script old after wires call ticket ready few found follows is out =
+    let l = join-leaves script.servers old.reached old.pool old.wires.items old.marks old.calls.entries call ticket ready.sound few (sym found) ready.wired ready.marked in
+    let all : Brings script.servers old.pool (changed (join old.reached (version_of ticket.first)) ticket.first old.pool) (issue_by ticket.first (finished old.reached) (look ticket.first old.pool) old.wires.items) old.marks old.calls.entries call (spec.joined old.reached) =
+    record { follows = follows; wired = l.wired; marked = l.marked } in
+    rw (is, out) all

@@ -18,9 +18,10 @@ use Rattle.id_pool.specs.Answers.{value_says}
 use Rattle.sim_run.specs.declared.ticket.Ticket.{Ticket}
 use Rattle.sim_run.specs.Slots.{IsFirst, visited, finished, join, join_by, join_says, joined_to}
 use Rattle.sim_run.specs.Desk.{stand, standing_at, standings, IsNumbered, IsKnown, IsSlot, IsSound}
+use Rattle.sim_run.proofs.Later.{IsLater, finished-later}
 use Rattle.sim_run.proofs.Changes.{look-at}
 use Rattle.sim_run.proofs.Entries.{change_first-nothing, find-standing, slot-of-all, known-of}
-use Rattle.sim_run.proofs.Steps.{Lives, lives, most, stepped, Follows, finds-in, visited-looks, is-over, over-look, over-nothing, over-standing, idle-if}
+use Rattle.sim_run.proofs.Steps.{Lives, lives, most, stepped, range-wide, later-range, Follows, finds-in, visited-looks, is-over, over-look, over-nothing, over-standing, idle-if}
 
 -- the moment and the line of a join, by what it finds in the pool
 abbrev pub moment_or : ℕ → Option (ℕ × Told) → ℕ
@@ -38,15 +39,15 @@ pub record JoinFollows (reached : ℕ) (slots : List (Slot Begun)) (entries : Li
   pub tells : join_tells reached (find (is_call call) (standings slots entries)) ≡ tells_or call (join_says reached (look first slots)) ∷ []
 
 -- what the first id of a call finds that has begun and wasn't told
-first-finds : (slots : List (Slot Begun)) (range : Ticket) (b : Begun) (bound : ℕ) (l : Lives slots range b) → AllByRecursion (IsSlot bound) slots → bound < 2 ^ 32 → 1 ≤ range.width → seen (version_of range.first) (Taken l.r) ≡ Unlocked l.r 0
+pub first-finds : (slots : List (Slot Begun)) (range : Ticket) (b : Begun) (bound : ℕ) (l : Lives slots range b) → AllByRecursion (IsSlot bound) slots → bound < 2 ^ 32 → 1 ≤ range.width → seen (version_of range.first) (Taken l.r) ≡ Unlocked l.r 0
 first-finds slots range b bound l open_ low some =
     let same : range.first + 0 ≡ range.first = omega arith in
     subst (λ id. seen (version_of id) (Taken l.r) ≡ Unlocked l.r 0) same (finds-in slots range b bound 0 l open_ low some).1
 
-first-looks : (slots : List (Slot Begun)) (range : Ticket) (b : Begun) (bound : ℕ) (l : Lives slots range b) → AllByRecursion (IsSlot bound) slots → bound < 2 ^ 32 → 1 ≤ range.width → look range.first slots ≡ Unlocked l.r 0
+pub first-looks : (slots : List (Slot Begun)) (range : Ticket) (b : Begun) (bound : ℕ) (l : Lives slots range b) → AllByRecursion (IsSlot bound) slots → bound < 2 ^ 32 → 1 ≤ range.width → look range.first slots ≡ Unlocked l.r 0
 first-looks slots range b bound l open_ low some = look-at range.first slots (Taken l.r) (ap (λ o. slot_at o slots) l.here ∙ l.at) ∙ first-finds slots range b bound l open_ low some
 
-left_by-low : (r : Range Begun) → r.first + r.size ≤ 2 ^ 32 - 1024 → left_by r ≡ Vacant (r.first + r.size)
+pub left_by-low : (r : Range Begun) → r.first + r.size ≤ 2 ^ 32 - 1024 → left_by r ≡ Vacant (r.first + r.size)
 left_by-low r h = let low : leb (r.first + r.size) (2 ^ 32 - 1024) ≡ true = grind (arith, nat_tests) in ap (λ b. if b then Vacant (r.first + r.size) else Retired) low
 
 join-lives-if : (o : Option End) (reached : ℕ) (slots : List (Slot Begun)) (entries : List (ℕ × Option Ticket)) (call : ℕ) (range : Ticket) (b : Begun) → end_of (finished reached b).state ≡ o → IsSound slots entries → length entries ≤ 500000
@@ -57,15 +58,20 @@ join-lives-if None reached slots entries call range b end sound few found value 
     let top = slot-of-all (IsSlot (most entries)) l.slot slots (Taken l.r) sound.open_slots l.at in
     let looks = visited-looks range slots b (finished reached b) l known.0 in
     let step : joined reached (begun b) ≡ begun (finished reached b) = ap (stand_joined (finished reached b)) end in
-    stepped slots entries call range b (join reached (version_of range.first)) (Taken (visited l.r (finished reached b))) (joined reached) sound found value l is (refl, refl) (top.0, refl)
+    let later : IsLater l.r.value (finished reached b) = subst (λ c. IsLater c (finished reached b)) (sym l.value) (finished-later reached b) in
+    stepped slots entries call range b (join reached (version_of range.first)) (Taken (visited l.r (finished reached b))) (joined reached) sound found value l is (refl, refl, later.issues)
+    (later-range (most entries) l.r (visited l.r (finished reached b)) later refl refl refl top)
     (step ∙ ap (stand call) (sym looks)) (inl (l.version, l.width)) (subst (IsNumbered call) (sym looks) number) (ap is_begun step)
 join-lives-if (Some e) reached slots entries call range b end sound few found value l number is =
     let top = slot-of-all (IsSlot (most entries)) l.slot slots (Taken l.r) sound.open_slots l.at in
-    let left = left_by-low l.r (omega (arith, top.0, few)) in
+    let below = top.below in
+    let wide = range-wide (most entries) l.r top in
+    let few_attempts = top.few_attempts in
+    let left = left_by-low l.r (omega (arith, below, few)) in
     let w = l.width in
     let v = l.version in
     let step : joined reached (begun b) ≡ told_of call = ap (stand_joined (finished reached b)) end ∙ ap told_of number in
-    stepped slots entries call range b (join reached (version_of range.first)) (Vacant (l.r.first + l.r.size)) (joined reached) sound found value l (is ∙ left) refl top.0
+    stepped slots entries call range b (join reached (version_of range.first)) (Vacant (l.r.first + l.r.size)) (joined reached) sound found value l (is ∙ left) (refl, omega (arith, wide, few_attempts)) below
     step (omega (arith, v, w)) tt (ap is_begun step)
 
 join-lives : (reached : ℕ) (slots : List (Slot Begun)) (entries : List (ℕ × Option Ticket)) (call : ℕ) (range : Ticket) (b : Begun) → IsSound slots entries → length entries ≤ 500000

@@ -1,5 +1,5 @@
 -- A join locks the call's range, takes the call's marks, and lets the range go or ends it.
-use Rattle.std.proofs.Common.{◌≡◌, ◌≢◌, ℕ, ◌==◌, Bool, true, false, not, List, [], Option, None, Some, is_some, ap, sym, refl, ◌∙◌, subst}
+use Rattle.std.proofs.Common.{◌≡◌, ◌≢◌, ℕ, ◌-◌, ◌≤◌, ◌==◌, Bool, true, false, not, List, [], Option, None, Some, is_some, ap, sym, refl, ◌∙◌, subst}
 use Rattle.std.specs.Option.{option_map}
 use Rattle.rpc_model.specs.declared.event.End.{End}
 use Rattle.rpc_model.specs.declared.told.Told.TheVariants.{Unended}
@@ -11,6 +11,8 @@ use Rattle.id_pool.specs.Ranges.{Slot, Vacant, Retired, Taken, Range, Standing, 
 use Rattle.id_pool.specs.Answers.{lock_says, value_says}
 use Rattle.id_pool.specs.declared.answers.Lock.TheVariants.{Yes}
 use Rattle.sim_run.specs.declared.slots.Finished.{Finished}
+use Rattle.sim_run.specs.Link.{Link}
+use Rattle.sim_run.specs.Sends.{issue_found, issue_by, FoundMayIssue, LookMayIssue}
 use Rattle.sim_run.specs.Slots.{visit, visit_by, touch, touch_by, finished, finished_of, joined_to, join_range, join, join_by, join_says}
 use Rattle.sim_run.proofs.Changes.{changed-twice, changed-alike, look-at, seen-taken, slot_at-change}
 
@@ -175,3 +177,29 @@ joins-open reached id k slots done j over = no_end _ (sym (ap (λ (d : Finished)
 
 pub joins-over : (reached id k : ℕ) (slots : List (Slot Begun)) (done : Finished) (j : Joins reached id k slots done) → done.over ≡ true → (end : End) × (end_of (finished reached j.range.value).state ≡ Some end)
 joins-over reached id k slots done j over = some_end _ (sym (ap (λ (d : Finished). d.over) j.is) ∙ over)
+
+-- ---- the attempts that go out meanwhile
+
+-- The call that is found locked may issue what it might issue unlocked.
+pub locked-may : (id k : ℕ) (slots now : List (Slot Begun)) (wires : List Link) → LookMayIssue id slots wires → lock_says (look id slots) ≡ Yes k → now ≡ changed (locked (version_of id)) id slots → FoundMayIssue (id - k) (value_says (look id now)) wires
+locked-may id k slots now wires may locks is =
+    let f = finds id k slots locks in
+    let value : value_says (look id now) ≡ Some f.0.value = ap (λ (ss : List (Slot Begun)). value_says (look id ss)) is ∙ locked-value id k slots f.0 f.1 in
+    subst (λ o. FoundMayIssue (id - k) o wires) (sym value) (may f.0 k (finds-look id k slots f.0 f.1)).1
+
+-- The place of an id in its range isn't above the id.
+pub locked-within : (id k : ℕ) (slots : List (Slot Begun)) (wires : List Link) → LookMayIssue id slots wires → lock_says (look id slots) ≡ Yes k → k ≤ id
+locked-within id k slots wires may locks = let f = finds id k slots locks in (may f.0 k (finds-look id k slots f.0 f.1)).0
+
+-- What it issues goes out.
+pub locked-issue : (h : Begun → Begun) (id k : ℕ) (slots now : List (Slot Begun)) (wires : List Link) → lock_says (look id slots) ≡ Yes k → now ≡ changed (locked (version_of id)) id slots → issue_found (id - k) h (value_says (look id now)) wires ≡ issue_by id h (look id slots) wires
+locked-issue h id k slots now wires locks is =
+    let f = finds id k slots locks in
+    let value : value_says (look id now) ≡ Some f.0.value = ap (λ (ss : List (Slot Begun)). value_says (look id ss)) is ∙ locked-value id k slots f.0 f.1 in
+    ap (λ o. issue_found (id - k) h o wires) value ∙ sym (ap (λ x. issue_by id h x wires) (finds-look id k slots f.0 f.1))
+
+-- Where nothing is locked nothing goes out.
+pub issue-none : (id : ℕ) (h : Begun → Begun) (x : Seen Begun) (wires : List Link) → ((k : ℕ) → lock_says x ≢ Yes k) → wires ≡ issue_by id h x wires
+issue-none id h Nothing wires none = refl
+issue-none id h (Unlocked r k) wires none = absurd (none k refl)
+issue-none id h (Locked r k waiting) wires none = refl

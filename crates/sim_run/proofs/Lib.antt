@@ -1,3 +1,5 @@
+pub mod Later
+pub mod Due
 pub mod Changes
 pub mod Joins
 pub mod Apart
@@ -12,3 +14,10 @@ pub mod JoinReady
 pub mod NewCalls
 pub mod Turns
 pub mod Marks
+pub mod Sends
+pub mod Wired
+pub mod Marked
+pub mod Brings
+pub mod JoinWired
+pub mod Reaching
+pub mod Moved

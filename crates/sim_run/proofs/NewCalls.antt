@@ -1,13 +1,15 @@
 -- A call line of a replay.
-use Rattle.std.proofs.Common.{◌≡◌, ◌≢◌, ℕ, zero, suc, ◌+◌, ◌*◌, ◌^◌, ◌<◌, ◌≤◌, true, false, nat_eq, List, [], ◌∷◌, ◌++◌, length, slice_get, count_by, Option, None, Some, ap, sym, refl, ◌∙◌, subst, arith, is_some, if◌then◌else◌}
+use Rattle.std.proofs.Common.{◌≡◌, ◌≢◌, ℕ, ◌+◌, ◌*◌, ◌^◌, ◌<◌, ◌≤◌, true, false, nat_eq, List, [], ◌∷◌, ◌++◌, length, slice_get, count_by, Option, None, Some, ap, sym, refl, ◌∙◌, subst, arith, is_some, if◌then◌else◌}
 use Rattle.std.proofs.lemmas.Bool.{eqb-false, ne_eqb}
 use Rattle.std.proofs.lemmas.Bool.Decides.{nat_tests}
 use Rattle.std.proofs.lemmas.Map.Keys.{IsDistinct-head, IsDistinct-tail}
 use Rattle.std.specs.List.{IsDistinct, AllByRecursion}
 use Rattle.std.specs.Map.{keys_of, lookup}
 use Rattle.std.specs.Option.{option_map}
+use Rattle.rpc_model.specs.declared.chan.LeafChan.{LeafChan}
 use Rattle.rpc_model.specs.declared.script.Script.{Script}
-use Rattle.rpc_model.specs.Plan.{Plan}
+use Rattle.rpc_model.specs.Fits.{IsLeaf}
+use Rattle.rpc_model.specs.Plan.{Plan, leaf_plan, plan}
 use Rattle.rpc_model.specs.Marks.{Begun, begin}
 use Rattle.rpc_model.specs.declared.told.Told.TheVariants.{Full as TellsFull}
 use Rattle.rpc_model.specs.Told as spec
@@ -19,13 +21,17 @@ use Rattle.link_core.specs.Outstanding.{is_outstanding, call_of}
 use Rattle.sim_run.specs.declared.ticket.Ticket.{Ticket}
 use Rattle.sim_run.specs.declared.state.Replay.{Replay}
 use Rattle.sim_run.specs.Link.{Link}
-use Rattle.sim_run.specs.Wires.{IsChangedAt, sent}
-use Rattle.sim_run.specs.Desk.{standings, IsSlot, IsPast, IsPastIn, IsWire, IsOn, IsReady, replay_of}
-use Rattle.sim_run.proofs.Changes.{slice_get-change}
+use Rattle.rpc_model.proofs.Early.{begin-sparse}
+use Rattle.sim_run.specs.Wires.{IsChangedAt, sent, server_on}
+use Rattle.sim_run.specs.Sends.{server_in}
+use Rattle.sim_run.specs.Marked.{AreMarked, with_marks}
+use Rattle.sim_run.specs.Desk.{standings, IsSlot, IsPast, IsPastIn, IsWire, IsWired, IsOn, IsReady, replay_of}
 use Rattle.sim_run.proofs.Entries.{slot-of-all}
 use Rattle.sim_run.proofs.Begins.{Joined, lowest-at, all-taken, not-all-taken, call-begins, full-begins, All-snoc, All-weaken}
-use Rattle.sim_run.proofs.Ready.{wires-past}
-use Rattle.sim_run.proofs.Replies.{set-length, All-set, All-at, slice_get-within}
+use Rattle.sim_run.proofs.Brings.{slice_get-within}
+use Rattle.sim_run.proofs.Sends.{plan-server}
+use Rattle.sim_run.proofs.Wired.{wired-begin}
+use Rattle.sim_run.proofs.Marked.{marked-begin, first-begin, first-more}
 
 -- ---- the pool's answer
 
@@ -93,38 +99,29 @@ waits-not slots i next id (x ∷ xs) at slot version past =
 pub silent : (slots : List (Slot Begun)) (i next id : ℕ) (wires : List Link) → slice_get slots i ≡ Some (Vacant next) → slot_of id ≡ Some i → next ≤ version_of id → AllByRecursion (IsWire slots) wires → AllByRecursion (λ w. is_outstanding id w.waiting ≡ false) wires
 silent slots i next id wires at slot version all = All-weaken (IsWire slots) (λ w. is_outstanding id w.waiting ≡ false) wires (λ w past. waits-not slots i next id w.waiting at slot version past) all
 
--- Where a request went out the wires are as many.
-pub sent-length : (server id call : ℕ) (payload : List ℕ) (old new : List Link) → IsChangedAt server (sent id call payload) old new → length new ≡ length old
-sent-length server id call payload old new c = ap length c.is ∙ set-length old server (sent id call payload c.wire)
-
--- They know one more id.
-pub sent-waits : (slots : List (Slot Begun)) (server id call : ℕ) (payload : List ℕ) (old new : List Link) → IsChangedAt server (sent id call payload) old new → IsPast slots id → AllByRecursion (IsWire slots) old → AllByRecursion (IsWire slots) new
-sent-waits slots server id call payload old new c past all =
-    rw c.is (All-set (IsWire slots) old server (sent id call payload c.wire) all (All-snoc (λ entry. IsPast slots entry.0) c.wire.waiting (id, call) (All-at (IsWire slots) old server c.wire all c.at) past))
-
 -- ---- the call line
 
+-- what is known of a new call
+pub record IsNewCall (script : Script) (call chan width : ℕ) (leaf : LeafChan) : Type 0 where
+  pub leaf_fits : IsLeaf script.servers leaf
+  pub on : chan < length script.chans
+  pub planned : plan script.chans chan call ≡ Some (leaf_plan leaf)
+  pub sized : width ≡ leaf.retry + 2
+
 -- A call that took a slot leaves the plain machine's calls with it, and the replay ready.
-begun-joined : (old : Replay) (script : Script) (call width first chan : ℕ) (b : Begun) (entries : List (ℕ × Option Ticket)) (after : List (Slot Begun)) → IsReady script old → length old.calls.entries ≤ 500000 → 1 ≤ width → width ≤ 1024 → b.call ≡ call
-    → (p : Place old.pool width first b) → after ≡ created width b old.pool → entries ≡ old.calls.entries ++ (call, Some (record { first = first; width = width; chan = chan })) ∷ [] → IsDistinct nat_eq (keys_of entries)
-    → Joined old.pool after old.calls.entries call (Some (record { first = first; width = width; chan = chan })) (begun b)
-begun-joined old script call width first chan b entries after ready few some most number p made put once =
+begun-joined : (old : Replay) (script : Script) (call width first chan moment : ℕ) (leaf : LeafChan) (text : List ℕ) (entries : List (ℕ × Option Ticket)) (after : List (Slot Begun)) → IsReady script old → length old.calls.entries ≤ 500000 → IsNewCall script call chan width leaf
+    → (p : Place old.pool width first (begin call (leaf_plan leaf) text moment)) → after ≡ created width (begin call (leaf_plan leaf) text moment) old.pool → entries ≡ old.calls.entries ++ (call, Some (record { first = first; width = width; chan = chan })) ∷ [] → IsDistinct nat_eq (keys_of entries)
+    → Joined old.pool after old.calls.entries call (Some (record { first = first; width = width; chan = chan })) (begun (begin call (leaf_plan leaf) text moment))
+begun-joined old script call width first chan moment leaf text entries after ready few new p made put once =
+    let b = begin call (leaf_plan leaf) text moment in
+    let sized = new.sized in
+    let retries = new.leaf_fits.few_retries in
     let ticket : Ticket = record { first = make_id p.slot p.next; width = width; chan = chan } in
     let same : Some (record { first = first; width = width; chan = chan }) ≡ Some ticket = ap (λ (id : ℕ). Some (record { first = id; width = width; chan = chan })) p.is in
     let put' : entries ≡ old.calls.entries ++ (call, Some ticket) ∷ [] = put ∙ ap (λ (o : Option Ticket). old.calls.entries ++ (call, o) ∷ []) same in
-    let j = call-begins old.pool old.calls.entries call p.slot p.next width chan b ready.sound few p.at some most number (subst (λ es. IsDistinct nat_eq (keys_of es)) put' once) in
+    let j = call-begins old.pool old.calls.entries call p.slot p.next width chan b ready.sound few p.at (omega (arith, sized)) (omega (arith, sized)) (omega (arith, sized, retries)) refl (omega arith) (begin-sparse call (leaf_plan leaf) text moment)
+    (subst (λ es. IsDistinct nat_eq (keys_of es)) put' once) in
     subst (λ o. Joined old.pool after old.calls.entries call o (begun b)) (sym same) (subst (λ ss. Joined old.pool ss old.calls.entries call (Some ticket) (begun b)) (sym (made ∙ p.after)) j)
-
--- the id of the first attempt is one that the slot has
-first-past : (old : Replay) (script : Script) (width first : ℕ) (b : Begun) (after : List (Slot Begun)) → IsReady script old → length old.calls.entries ≤ 500000 → 2 ≤ width → (p : Place old.pool width first b) → after ≡ created width b old.pool → IsPast after (first + 1)
-first-past old script width first b after ready few some p made =
-    let top : p.next ≤ 1 + 1024 * length old.calls.entries = slot-of-all (IsSlot (1 + 1024 * length old.calls.entries)) p.slot old.pool (Vacant p.next) ready.sound.open_slots p.at in
-    let low : p.next + 1 < 2 ^ 32 = omega (arith, top, few) in
-    let id : first + 1 ≡ make_id p.slot (p.next + 1) = ap (λ n. n + 1) p.is ∙ make_id-plus p.slot p.next 1 in
-    let slot : slot_of (first + 1) ≡ Some p.slot = ap slot_of id ∙ slot_of-make_id p.slot (p.next + 1) low in
-    let version : version_of (first + 1) ≡ p.next + 1 = ap version_of id ∙ version_of-make_id p.slot (p.next + 1) low in
-    let at : slot_at (slot_of (first + 1)) after ≡ Some (Taken (fresh p.next width b)) = ap (λ o. slot_at o after) slot ∙ ap (λ (ss : List (Slot Begun)). slice_get ss p.slot) (made ∙ p.after) ∙ slice_get-change p.slot (λ s. Taken (fresh p.next width b)) old.pool (Vacant p.next) p.at in
-    subst (IsPastIn (version_of (first + 1))) (sym at) (omega (arith, version, some))
 
 -- that id waits nowhere yet
 pub first-silent : (old : Replay) (script : Script) (width first : ℕ) (b : Begun) → IsReady script old → length old.calls.entries ≤ 500000 → (p : Place old.pool width first b) → AllByRecursion (λ w. is_outstanding (first + 1) w.waiting ≡ false) old.wires.items
@@ -134,7 +131,7 @@ first-silent old script width first b ready few p =
     let id : first + 1 ≡ make_id p.slot (p.next + 1) = ap (λ n. n + 1) p.is ∙ make_id-plus p.slot p.next 1 in
     let slot : slot_of (first + 1) ≡ Some p.slot = ap slot_of id ∙ slot_of-make_id p.slot (p.next + 1) low in
     let version : version_of (first + 1) ≡ p.next + 1 = ap version_of id ∙ version_of-make_id p.slot (p.next + 1) low in
-    silent old.pool p.slot p.next (first + 1) old.wires.items p.at slot (omega (arith, version)) ready.waiting
+    silent old.pool p.slot p.next (first + 1) old.wires.items p.at slot (omega (arith, version)) ready.wired.waiting
 
 -- The first id is low.
 pub first-low : (old : Replay) (script : Script) (width first : ℕ) (b : Begun) → IsReady script old → length old.calls.entries ≤ 500000 → script.slots ≤ 4096 → (p : Place old.pool width first b) → first < 2 ^ 63
@@ -145,29 +142,38 @@ first-low old script width first b ready few slots p =
     let is = p.is in
     omega (arith, top, few, within, n, slots, is)
 
-pub call-ready : (old new : Replay) (script : Script) (call width first chan server : ℕ) (text : List ℕ) (b : Begun) → IsReady script old → length old.calls.entries ≤ 500000 → 2 ≤ width → width ≤ 1024 → b.call ≡ call → chan < length script.chans
-    → (p : Place old.pool width first b) → new.pool ≡ created width b old.pool → new.calls.entries ≡ old.calls.entries ++ (call, Some (record { first = first; width = width; chan = chan })) ∷ [] → IsDistinct nat_eq (keys_of new.calls.entries)
-    → IsChangedAt server (sent (first + 1) call text) old.wires.items new.wires.items → IsReady script new
-call-ready old new script call width first chan server text b ready few some most number on p made put once out =
+pub call-ready : (old new : Replay) (script : Script) (call width first chan moment : ℕ) (leaf : LeafChan) (text : List ℕ) → IsReady script old → length old.calls.entries ≤ 500000 → IsNewCall script call chan width leaf → lookup (nat_eq call) old.calls.entries ≡ None
+    → (p : Place old.pool width first (begin call (leaf_plan leaf) text moment)) → new.pool ≡ created width (begin call (leaf_plan leaf) text moment) old.pool → new.calls.entries ≡ old.calls.entries ++ (call, Some (record { first = first; width = width; chan = chan })) ∷ []
+    → IsDistinct nat_eq (keys_of new.calls.entries) → new.marks ≡ with_marks first leaf moment old.marks → IsChangedAt (server_on script.chans chan call 0) (sent (first + 1) call text) old.wires.items new.wires.items → IsReady script new
+call-ready old new script call width first chan moment leaf text ready few is_new none p made put once marked out =
+    let b = begin call (leaf_plan leaf) text moment in
     let ticket : Ticket = record { first = first; width = width; chan = chan } in
-    let j = begun-joined old script call width first chan b new.calls.entries new.pool ready few (omega (arith, some)) most number p made put once in
+    let j = begun-joined old script call width first chan moment leaf text new.calls.entries new.pool ready few is_new p made put once in
+    let top : p.next ≤ 1 + 1024 * length old.calls.entries = slot-of-all (IsSlot (1 + 1024 * length old.calls.entries)) p.slot old.pool (Vacant p.next) ready.sound.open_slots p.at in
+    let low : p.next + 1 < 2 ^ 32 = omega (arith, top, few) in
+    let to : IsChangedAt (server_in (leaf_plan leaf) call 0) (sent (make_id p.slot p.next + 1) call text) old.wires.items new.wires.items =
+    subst (λ s. IsChangedAt s (sent (make_id p.slot p.next + 1) call text) old.wires.items new.wires.items) (plan-server (slice_get script.chans chan) leaf call 0 is_new.planned)
+    (subst (λ id. IsChangedAt (server_on script.chans chan call 0) (sent (id + 1) call text) old.wires.items new.wires.items) p.is out) in
+    let wired = wired-begin script.servers old.pool old.wires.items new.wires.items p.slot p.next width b ready.wired p.at low refl (is_new.leaf_fits.some_server, is_new.leaf_fits.known_servers) to in
+    let waits = marked-begin old.pool p.slot p.next width call moment leaf text old.marks ready.marked p.at in
     record {
       sound = rw put j.sound;
       pool = j.size ∙ ready.pool;
-      servers = sent-length server (first + 1) call text old.wires.items new.wires.items out ∙ ready.servers;
-      waiting = sent-waits new.pool server (first + 1) call text old.wires.items new.wires.items out (first-past old script width first b new.pool ready few some p made) (wires-past old.pool new.pool old.wires.items j.past ready.waiting);
-      channels = rw put (All-snoc (λ entry. IsOn (length script.chans) entry.1) old.calls.entries (call, Some ticket) ready.channels on);
+      wired = subst (λ ss. IsWired script.servers ss new.wires.items) (sym (made ∙ p.after)) wired;
+      channels = rw put (All-snoc (λ entry. IsOn (length script.chans) entry.1) old.calls.entries (call, Some ticket) ready.channels is_new.on);
+      marked = subst (λ ms. AreMarked ms new.pool) (sym (marked ∙ ap (λ id. with_marks id leaf moment old.marks) p.is)) (subst (AreMarked (with_marks (make_id p.slot p.next) leaf moment old.marks)) (sym (made ∙ p.after)) waits);
+      marks = rw (put, marked) (first-begin call ticket old.calls.entries leaf moment old.marks none ready.marks);
     }
 
-pub call-after : (old new : Replay) (script : Script) (moment call width first chan : ℕ) (text : List ℕ) (p' : Plan) (o : Option Plan) → o ≡ Some p' → IsReady script old → length old.calls.entries ≤ 500000 → 1 ≤ width → width ≤ 1024
-    → (p : Place old.pool width first (begin call p' text moment)) → new.pool ≡ created width (begin call p' text moment) old.pool → new.calls.entries ≡ old.calls.entries ++ (call, Some (record { first = first; width = width; chan = chan })) ∷ []
-    → IsDistinct nat_eq (keys_of new.calls.entries) → new.reached ≡ moment → replay_of new ≡ spec.call_after script (replay_of old) moment call text o
-call-after old new script moment call width first chan text p' o planned ready few some most p made put once reached =
-    let j = begun-joined old script call width first chan (begin call p' text moment) new.calls.entries new.pool ready few some most refl p made put once in
+pub call-after : (old new : Replay) (script : Script) (moment call width first chan : ℕ) (leaf : LeafChan) (text : List ℕ) → IsReady script old → length old.calls.entries ≤ 500000 → IsNewCall script call chan width leaf
+    → (p : Place old.pool width first (begin call (leaf_plan leaf) text moment)) → new.pool ≡ created width (begin call (leaf_plan leaf) text moment) old.pool → new.calls.entries ≡ old.calls.entries ++ (call, Some (record { first = first; width = width; chan = chan })) ∷ []
+    → IsDistinct nat_eq (keys_of new.calls.entries) → new.reached ≡ moment → replay_of new ≡ spec.call_after script (replay_of old) moment call text (plan script.chans chan call)
+call-after old new script moment call width first chan leaf text ready few is_new p made put once reached =
+    let j = begun-joined old script call width first chan moment leaf text new.calls.entries new.pool ready few is_new p made put once in
     let free = isn't-full script old p.slot p.next ready p.at in
-    let stood : standings new.pool new.calls.entries ≡ standings old.pool old.calls.entries ++ spec.stand_new (spec.is_full script (replay_of old)) call p' text moment ∷ [] =
-    ap (standings new.pool) put ∙ j.stands ∙ sym (ap (λ v. standings old.pool old.calls.entries ++ spec.stand_new v call p' text moment ∷ []) free) in
-    rw (planned, reached) (ap (λ (ss : List spec.Standing). record { reached = moment; calls = ss }) stood)
+    let stood : standings new.pool new.calls.entries ≡ standings old.pool old.calls.entries ++ spec.stand_new (spec.is_full script (replay_of old)) call (leaf_plan leaf) text moment ∷ [] =
+    ap (standings new.pool) put ∙ j.stands ∙ sym (ap (λ v. standings old.pool old.calls.entries ++ spec.stand_new v call (leaf_plan leaf) text moment ∷ []) free) in
+    rw (is_new.planned, reached) (ap (λ (ss : List spec.Standing). record { reached = moment; calls = ss }) stood)
 
 -- What a call line tells where the call took a slot.
 pub call-tells : (old : Replay) (script : Script) (call width first : ℕ) (b : Begun) (o : Option Plan) (p' : Plan) → o ≡ Some p' → IsReady script old → (p : Place old.pool width first b) → spec.call_tells (spec.is_full script (replay_of old)) call o ≡ []
@@ -178,15 +184,16 @@ call-tells old script call width first b o p' planned ready p =
 full-joined : (old new : Replay) (script : Script) (call : ℕ) → IsReady script old → new.calls.entries ≡ old.calls.entries ++ (call, None) ∷ [] → IsDistinct nat_eq (keys_of new.calls.entries) → Joined old.pool old.pool old.calls.entries call None (full call)
 full-joined old new script call ready put once = full-begins old.pool old.calls.entries call ready.sound (subst (λ es. IsDistinct nat_eq (keys_of es)) put once)
 
-pub full-ready : (old new : Replay) (script : Script) (call : ℕ) → IsReady script old → new.pool ≡ old.pool → new.wires ≡ old.wires → new.calls.entries ≡ old.calls.entries ++ (call, None) ∷ [] → IsDistinct nat_eq (keys_of new.calls.entries) → IsReady script new
-full-ready old new script call ready pool wires put once =
+pub full-ready : (old new : Replay) (script : Script) (call : ℕ) → IsReady script old → new.pool ≡ old.pool → new.wires ≡ old.wires → new.marks ≡ old.marks → new.calls.entries ≡ old.calls.entries ++ (call, None) ∷ [] → IsDistinct nat_eq (keys_of new.calls.entries) → IsReady script new
+full-ready old new script call ready pool wires marks put once =
     let j = full-joined old new script call ready put once in
     record {
       sound = rw (pool, put) j.sound;
       pool = ap length pool ∙ ready.pool;
-      servers = ap (λ w. length w.items) wires ∙ ready.servers;
-      waiting = rw (pool, wires) ready.waiting;
+      wired = rw (pool, wires) ready.wired;
       channels = rw put (All-snoc (λ entry. IsOn (length script.chans) entry.1) old.calls.entries (call, None) ready.channels tt);
+      marked = rw (pool, marks) ready.marked;
+      marks = rw (put, marks) (first-more call None old.calls.entries old.marks ready.marks);
     }
 
 pub full-after : (old new : Replay) (script : Script) (moment call : ℕ) (text : List ℕ) (p' : Plan) (o : Option Plan) → o ≡ Some p' → IsReady script old → lowest old.pool ≡ None → new.pool ≡ old.pool → new.reached ≡ moment → new.calls.entries ≡ old.calls.entries ++ (call, None) ∷ []

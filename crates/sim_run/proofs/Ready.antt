@@ -1,21 +1,25 @@
 -- A replay between two lines: what an event and a join of a call leave of it.
-use Rattle.std.proofs.Common.{◌≡◌, ◌≢◌, ℕ, zero, suc, ◌+◌, ◌≤◌, nat_eq, List, [], length, count_by, Option, None, Some, ap, sym, refl, ◌∙◌, subst, arith}
+use Rattle.std.proofs.Common.{◌≡◌, ◌≢◌, ℕ, zero, suc, ◌+◌, ◌≤◌, nat_eq, List, [], length, slice_get, count_by, Option, None, Some, ap, sym, refl, ◌∙◌, subst, arith}
 use Rattle.std.specs.List.{IsDistinct, AllByRecursion}
 use Rattle.std.specs.Map.{lookup}
 use Rattle.rpc_model.specs.declared.event.Event.{Event}
 use Rattle.rpc_model.specs.declared.script.Script.{Script}
-use Rattle.rpc_model.specs.Marks.{Begun}
+use Rattle.rpc_model.specs.Marks.{Begun, weave}
 use Rattle.rpc_model.specs.Told as spec
 use Rattle.id_pool.specs.Ids.{version_of}
-use Rattle.id_pool.specs.Ranges.{Slot, Vacant, changed, opened}
+use Rattle.id_pool.specs.Ranges.{Slot, Vacant, Taken, Range, changed, look, opened}
 use Rattle.sim_run.specs.declared.ticket.Ticket.{Ticket}
 use Rattle.sim_run.specs.declared.state.Replay.{Replay}
+use Rattle.timer_core.specs.declared.mark.Mark.{Mark}
 use Rattle.sim_run.specs.Link.{Link}
-use Rattle.sim_run.specs.Slots.{visit, evented}
-use Rattle.sim_run.specs.Desk.{is_taken, IsSlot, IsSound, IsPast, IsWire, IsReady, replay_of, ticket_in}
+use Rattle.sim_run.specs.declared.open_call.Turn.TheVariants as turn
+use Rattle.sim_run.specs.Slots.{visit, turned}
+use Rattle.sim_run.specs.Sends.{issue_by, LookMayIssue}
+use Rattle.sim_run.specs.Marked.{AreMarked, AreFirstIds, AreSettled}
+use Rattle.sim_run.specs.Desk.{is_taken, IsSlot, IsServed, IsSound, IsWire, IsWired, IsReady, replay_of, ticket_in}
 use Rattle.sim_run.proofs.Entries.{count-cons, known-of}
-use Rattle.sim_run.proofs.Steps.{Follows, event-moved, event-nothing}
-use Rattle.sim_run.proofs.Begins.{All-weaken}
+use Rattle.sim_run.proofs.Steps.{Follows, IsSettledAt, most, lives, event-changes, event-nothing}
+use Rattle.sim_run.proofs.Brings.{Brings, brings, brings-may}
 
 -- ---- a new replay
 
@@ -41,29 +45,46 @@ opened-sound n entries none = rw none (record {
   counted = sym (opened-taken n);
 })
 
+-- Wires on which nothing went out fit new slots.
+opened-served : (servers n : ℕ) → AllByRecursion (IsServed servers) (opened {T = Begun} n)
+opened-served servers zero = tt
+opened-served servers (suc n) = (tt, opened-served servers n)
+
+opened-vacant : (n i : ℕ) (r : Range Begun) → slice_get (opened {T = Begun} n) i ≢ Some (Taken r)
+opened-vacant zero i r e = cc
+opened-vacant (suc n) zero r e = cc
+opened-vacant (suc n) (suc i) r e = opened-vacant n i r e
+
+pub opened-wired : (servers n : ℕ) (slots : List (Slot Begun)) (wires : List Link) → slots ≡ opened n → length wires ≡ servers → AllByRecursion (IsWire slots) wires → IsWired servers slots wires
+opened-wired servers n slots wires is size waiting = record {
+  size = size;
+  waiting = waiting;
+  served = rw is (opened-served servers n);
+  sent = λ slot r at k less. absurd (opened-vacant n slot r (sym (ap (λ (ss : List (Slot Begun)). slice_get ss slot) is) ∙ at));
+}
+
+pub opened-marked : (n : ℕ) (slots : List (Slot Begun)) (marks : List Mark) → slots ≡ opened n → AreMarked marks slots
+opened-marked n slots marks is slot r at = absurd (opened-vacant n slot r (sym (ap (λ (ss : List (Slot Begun)). slice_get ss slot) is) ∙ at))
+
 -- ---- one call's step
 
--- The wires know no id of a range to come.
-pub wires-past : (slots after : List (Slot Begun)) (wires : List Link) → ((id : ℕ) → IsPast slots id → IsPast after id) → AllByRecursion (IsWire slots) wires → AllByRecursion (IsWire after) wires
-wires-past slots after wires past h =
-    All-weaken (IsWire slots) (IsWire after) wires (λ wire w. All-weaken (λ entry. IsPast slots entry.0) (λ entry. IsPast after entry.0) wire.waiting (λ entry p. past entry.0 p) w) h
-
--- A step of one call leaves a replay ready, whatever its wires have sent meanwhile.
-pub ready-follows : (script : Script) (old new : Replay) (call : ℕ) (f : spec.Standing → spec.Standing) → IsReady script old → Follows old.pool new.pool old.calls.entries call f → new.calls ≡ old.calls
-    → length new.wires.items ≡ script.servers → AllByRecursion (IsWire old.pool) new.wires.items → IsReady script new
-ready-follows script old new call f ready follows calls servers waiting = record {
-  sound = rw calls follows.sound;
-  pool = follows.size ∙ ready.pool;
-  servers = servers;
-  waiting = wires-past old.pool new.pool new.wires.items follows.past waiting;
+-- A step of one call leaves a replay ready.
+pub ready-brings : (script : Script) (old new : Replay) (call : ℕ) (f : spec.Standing → spec.Standing) → IsReady script old → Brings script.servers old.pool new.pool new.wires.items new.marks old.calls.entries call f → new.calls ≡ old.calls
+    → AreFirstIds old.calls.entries new.marks → IsReady script new
+ready-brings script old new call f ready brought calls marks = record {
+  sound = rw calls brought.follows.sound;
+  pool = brought.follows.size ∙ ready.pool;
+  wired = brought.wired;
   channels = rw calls ready.channels;
+  marked = brought.marked;
+  marks = rw calls marks;
 }
 
 -- An event leaves the plain machine's replay after it.
-pub event-replay : (old new : Replay) (call : ℕ) (event : Event) (moment : ℕ) → Follows old.pool new.pool old.calls.entries call (spec.event_after event moment) → new.calls ≡ old.calls → new.reached ≡ moment
-    → replay_of new ≡ spec.call_event (replay_of old) moment call event
-event-replay old new call event moment follows calls reached =
-    rw (calls, reached) (ap (λ (ss : List spec.Standing). record { reached = moment; calls = ss }) follows.stands)
+pub event-replay : (old new : Replay) (call : ℕ) (event : Event) → Follows old.pool new.pool old.calls.entries call (spec.event_after event old.reached) → new.calls ≡ old.calls → new.reached ≡ old.reached
+    → replay_of new ≡ spec.call_event (replay_of old) old.reached call event
+event-replay old new call event follows calls reached =
+    rw (calls, reached) (ap (λ (ss : List spec.Standing). record { reached = old.reached; calls = ss }) follows.stands)
 
 pub some_ticket : (o : Option (Option Ticket)) (ticket : Ticket) → ticket_in o ≡ Some ticket → o ≡ Some (Some ticket)
 some_ticket None ticket e = absurd (cc)
@@ -73,16 +94,34 @@ pub no_ticket : (o : Option (Option Ticket)) → ticket_in o ≡ None → (ticke
 no_ticket None e ticket same = absurd (cc)
 no_ticket (Some o) e ticket same = cc
 
+-- Where no call in a slot waits for a due mark, a ticket's ids find no such call.
+pub settled-at : (moment : ℕ) (slots : List (Slot Begun)) (entries : List (ℕ × Option Ticket)) (call : ℕ) (ticket : Ticket) → AreSettled moment slots → IsSound slots entries → lookup (nat_eq call) entries ≡ Some (Some ticket) → IsSettledAt moment slots ticket
+settled-at moment slots entries call ticket settled sound found b value =
+    let known = known-of slots call (Some ticket) entries sound.known found in
+    let l = lives slots call ticket b (most entries) known sound.open_slots value in
+    subst (λ c. weave moment c ≡ c) l.value (settled l.slot l.r l.at)
+
 -- An event that comes by the call's own id.
-pub own-event : (script : Script) (old : Replay) (after : List (Slot Begun)) (call : ℕ) (ticket : Ticket) (event : Event) (moment : ℕ) → IsReady script old → length old.calls.entries ≤ 500000
-    → Some ticket ≡ ticket_in (lookup (nat_eq call) old.calls.entries) → after ≡ changed (visit (evented event moment) (version_of ticket.first)) ticket.first old.pool
-    → Follows old.pool after old.calls.entries call (spec.event_after event moment)
-own-event script old after call ticket event moment ready few found is =
+pub own-event : (script : Script) (old : Replay) (after : List (Slot Begun)) (wires : List Link) (call : ℕ) (ticket : Ticket) (event : Event) → IsReady script old → length old.calls.entries ≤ 500000 → AreSettled old.reached old.pool
+    → Some ticket ≡ ticket_in (lookup (nat_eq call) old.calls.entries) → after ≡ changed (visit (turned (turn.Event event)) (version_of ticket.first)) ticket.first old.pool
+    → wires ≡ issue_by ticket.first (turned (turn.Event event)) (look ticket.first old.pool) old.wires.items → Brings script.servers old.pool after wires old.marks old.calls.entries call (spec.event_after event old.reached)
+own-event script old after wires call ticket event ready few settled found is out =
     let looked = some_ticket (lookup (nat_eq call) old.calls.entries) ticket (sym found) in
     let known = known-of old.pool call (Some ticket) old.calls.entries ready.sound.known looked in
     let same : ticket.first + 0 ≡ ticket.first = omega arith in
-    let moved = event-moved old.pool old.calls.entries call ticket event moment 0 ready.sound few looked known.0 in
-    rw is (subst (λ id. Follows old.pool (changed (visit (evented event moment) (version_of id)) id old.pool) old.calls.entries call (spec.event_after event moment)) same moved)
+    let h = turned (turn.Event event) in
+    let f = spec.event_after event old.reached in
+    let does = event-changes old.pool ticket event old.reached (settled-at old.reached old.pool old.calls.entries call ticket settled ready.sound looked) in
+    let moved = brings script.servers old.pool old.wires.items old.marks old.calls.entries call ticket h f 0 does ready.sound few looked known.0 ready.wired ready.marked in
+    rw (is, out) (subst (λ id. Brings script.servers old.pool (changed (visit h (version_of id)) id old.pool) (issue_by id h (look id old.pool) old.wires.items) old.marks old.calls.entries call f) same moved)
+
+-- It may issue attempts meanwhile.
+pub own-may : (script : Script) (old : Replay) (call : ℕ) (ticket : Ticket) → IsReady script old → length old.calls.entries ≤ 500000 → script.slots ≤ 4096 → lookup (nat_eq call) old.calls.entries ≡ Some (Some ticket) → LookMayIssue ticket.first old.pool old.wires.items
+own-may script old call ticket ready few slots looked =
+    let known = known-of old.pool call (Some ticket) old.calls.entries ready.sound.known looked in
+    let same : ticket.first + 0 ≡ ticket.first = omega arith in
+    let n = ready.pool in
+    subst (λ id. LookMayIssue id old.pool old.wires.items) same (brings-may script.servers old.pool old.wires.items old.calls.entries call ticket 0 ready.sound few looked known.0 ready.wired (omega (arith, n, slots)))
 
 -- An event of a call without a ticket.
 pub no-event : (script : Script) (old : Replay) (call : ℕ) (event : Event) (moment : ℕ) → IsReady script old → None ≡ ticket_in (lookup (nat_eq call) old.calls.entries)

@@ -1,30 +1,30 @@
 -- A reply comes to its attempt by the attempt's id alone.
-use Rattle.std.proofs.Common.{◌≡◌, ℕ, zero, suc, ◌+◌, ◌*◌, ◌/◌, ◌^◌, ◌<◌, ◌≤◌, ◌==◌, ◌&&◌, nat_lt, Bool, true, false, nat_eq, List, [], ◌∷◌, set, length, slice_get, Option, None, Some, ap, sym, refl, ◌∙◌, subst, arith, add-one, if◌then◌else◌, inl, inr}
+use Rattle.std.proofs.Common.{◌≡◌, ℕ, suc, ◌+◌, ◌*◌, ◌/◌, ◌^◌, ◌<◌, ◌≤◌, ◌==◌, ◌&&◌, nat_lt, Bool, true, false, nat_eq, List, [], ◌∷◌, length, Option, None, Some, ap, sym, refl, ◌∙◌, subst, arith, add-one, if◌then◌else◌, inl, inr}
 use Rattle.std.proofs.lemmas.Bool.{eqb-true}
 use Rattle.std.proofs.lemmas.Bool.Decides.{nat_tests}
 use Rattle.std.specs.List.{AllByRecursion}
 use Rattle.std.specs.Map.{lookup}
 use Rattle.rpc_model.specs.declared.event.Event.{Event}
-use Rattle.rpc_model.specs.declared.event.Event.TheVariants as event
 use Rattle.rpc_model.specs.declared.script.Script.{Script}
 use Rattle.rpc_model.specs.Marks.{Begun}
 use Rattle.rpc_model.specs.Told as spec
 use Rattle.id_pool.specs.Ids.{slot_of, version_of}
-use Rattle.id_pool.specs.Ranges.{Slot, Vacant, Retired, Taken, Unlocked, Nothing, look, slot_at, changed}
+use Rattle.id_pool.specs.Ranges.{Slot, Vacant, Retired, Taken, Nothing, look, slot_at, changed}
 use Rattle.id_pool.specs.Answers.{find_says, value_says}
-use Rattle.link_core.specs.Outstanding.{without}
 use Rattle.sim_run.specs.declared.ticket.Ticket.{Ticket}
 use Rattle.sim_run.specs.declared.state.Replay.{Replay}
-use Rattle.sim_run.specs.declared.wire.Reply.{Reply}
+use Rattle.sim_run.specs.declared.open_call.Turn.TheVariants as turn
 use Rattle.sim_run.specs.Link.{Link}
-use Rattle.sim_run.specs.Wires.{IsChangedAt, received}
-use Rattle.sim_run.specs.Slots.{visit, visit_by, evented, brought, brought_to, delivered}
-use Rattle.sim_run.specs.Desk.{attempt_id, IsOf, IsOfSlot, IsSlot, IsSound, IsPast, IsWire, IsReady, ticket_in}
+use Rattle.sim_run.specs.Slots.{visit, visit_by, turned, brought, brought_to, brought_wires, brought_wires_to}
+use Rattle.sim_run.specs.Sends.{issue_by, LookMayIssue}
+use Rattle.sim_run.specs.Marked.{AreSettled}
+use Rattle.sim_run.specs.Desk.{attempt_id, IsOf, IsOfSlot, IsSlot, IsSound, IsWired, IsReady, ticket_in}
 use Rattle.sim_run.proofs.Changes.{look-at}
 use Rattle.sim_run.proofs.Apart.{high_half}
 use Rattle.sim_run.proofs.Entries.{found_if, slot-of-all, known-of}
-use Rattle.sim_run.proofs.Steps.{most, Follows, lives, finds-in, is-over, over-look, over-nothing, event-moved}
-use Rattle.sim_run.proofs.Ready.{some_ticket}
+use Rattle.sim_run.proofs.Steps.{most, lives, is-over, over-look, over-nothing, event-changes}
+use Rattle.sim_run.proofs.Brings.{slice_get-within, found, Brings, brings, brings-may}
+use Rattle.sim_run.proofs.Ready.{some_ticket, settled-at}
 
 -- ---- where ids lie
 
@@ -35,11 +35,6 @@ entry-of P call o ((number, x) ∷ xs) all e = elim (found_if (nat_eq call numbe
   | inl here ↦ subst P here.1 all.0
   | inr there ↦ entry-of P call o xs all.1 there.1
 ]
-
-pub slice_get-within : {X : Type 0} (i : ℕ) (xs : List X) (x : X) → slice_get xs i ≡ Some x → i < length xs
-slice_get-within i [] x e = absurd (cc)
-slice_get-within zero (y ∷ ys) x e = omega arith
-slice_get-within (suc i) (y ∷ ys) x e = let tail = slice_get-within i ys x e in omega (arith, tail)
 
 -- where a ticket's ids lie: below the ids of 4,096 slots
 pub record IsLow (ticket : Ticket) : Type 0 where
@@ -58,8 +53,8 @@ low-slot slots ticket bound (Some i) (Some slot) p q of open_ low few =
     by : (slot : Slot Begun) → IsOf ticket slot → IsSlot bound slot → ticket.width < 2 ^ 32
     by (Vacant next) of top = omega (arith, of, top, low)
     by Retired of top = absurd of
-    by (Taken r) (inl own) top = let w = own.1 in let t = top.0 in omega (arith, w, t, low)
-    by (Taken r) (inr before) top = let t = top.0 in omega (arith, before, t, low)
+    by (Taken r) (inl own) top = let w = own.1 in let t = top.below in omega (arith, w, t, low)
+    by (Taken r) (inr before) top = let t = top.below in omega (arith, before, t, low)
 
 pub ticket-low : (script : Script) (old : Replay) (call : ℕ) (ticket : Ticket) → IsReady script old → length old.calls.entries ≤ 500000 → script.slots ≤ 4096 → Some ticket ≡ ticket_in (lookup (nat_eq call) old.calls.entries) → IsLow ticket
 ticket-low script old call ticket ready few slots found =
@@ -83,67 +78,55 @@ names ticket node attempt id e = by (node == 0) (nat_lt (attempt + 1) ticket.wid
 
 -- ---- the step of what becomes of an attempt
 
--- What becomes of an attempt does to the calls what the plain machine does.
-pub brought-moved : (slots : List (Slot Begun)) (entries : List (ℕ × Option Ticket)) (call : ℕ) (ticket : Ticket) (attempt moment id : ℕ) (what : ℕ → Event) → IsSound slots entries → length entries ≤ 500000
-    → lookup (nat_eq call) entries ≡ Some (Some ticket) → attempt + 1 < ticket.width → id ≡ ticket.first + (attempt + 1)
-    → Follows slots (brought what id moment slots) entries call (spec.event_after (what attempt) moment)
-brought-moved slots entries call ticket attempt moment id what sound few found within is =
-    let moved = event-moved slots entries call ticket (what attempt) moment (attempt + 1) sound few found within in
-    let same : brought what (ticket.first + (attempt + 1)) moment slots ≡ changed (visit (evented (what attempt) moment) (version_of (ticket.first + (attempt + 1)))) (ticket.first + (attempt + 1)) slots = by (value_says (look ticket.first slots)) refl in
-    rw is (subst (λ after. Follows slots after entries call (spec.event_after (what attempt) moment)) (sym same) moved)
+-- what is brought to the attempt's id is brought to the call
+record IsBrought (slots : List (Slot Begun)) (wires : List Link) (id attempt : ℕ) (what : ℕ → Event) : Type 0 where
+  slots_are : brought what id slots ≡ changed (visit (turned (turn.Event (what attempt))) (version_of id)) id slots
+  wires_are : brought_wires what id slots wires ≡ issue_by id (turned (turn.Event (what attempt))) (look id slots) wires
+
+is-brought : (slots : List (Slot Begun)) (wires : List Link) (entries : List (ℕ × Option Ticket)) (call : ℕ) (ticket : Ticket) (attempt : ℕ) (what : ℕ → Event) → IsSound slots entries → length entries ≤ 500000
+    → lookup (nat_eq call) entries ≡ Some (Some ticket) → attempt + 1 < ticket.width → IsBrought slots wires (ticket.first + (attempt + 1)) attempt what
+is-brought slots wires entries call ticket attempt what sound few at within = by (value_says (look ticket.first slots)) refl
   where
-    by : (x : Option Begun) → value_says (look ticket.first slots) ≡ x → brought what (ticket.first + (attempt + 1)) moment slots
-        ≡ changed (visit (evented (what attempt) moment) (version_of (ticket.first + (attempt + 1)))) (ticket.first + (attempt + 1)) slots
+    by : (x : Option Begun) → value_says (look ticket.first slots) ≡ x → IsBrought slots wires (ticket.first + (attempt + 1)) attempt what
     by None e =
-        let known = known-of slots call (Some ticket) entries sound.known found in
+        let known = known-of slots call (Some ticket) entries sound.known at in
         let o = is-over slots call ticket (most entries) known sound.open_slots (omega (arith, few)) e in
         let there = over-look slots ticket o (attempt + 1) within in
-        let nothing : look (ticket.first + (attempt + 1)) slots ≡ Nothing = look-at (ticket.first + (attempt + 1)) slots o.slot there.0 ∙ there.1 in
-        ap (λ x. brought_to (find_says x) what (ticket.first + (attempt + 1)) moment slots) nothing
-        ∙ sym (over-nothing slots ticket o (attempt + 1) (λ v. visit (evented (what attempt) moment) v) within (λ v s e. ap (λ x. visit_by (evented (what attempt) moment) x s) e))
+        let id = ticket.first + (attempt + 1) in
+        let h = turned (turn.Event (what attempt)) in
+        let nothing : look id slots ≡ Nothing = look-at id slots o.slot there.0 ∙ there.1 in
+        record {
+          slots_are = ap (λ x. brought_to (find_says x) what id slots) nothing ∙ sym (over-nothing slots ticket o (attempt + 1) (λ v. visit h v) within (λ v s e. ap (λ x. visit_by h x s) e));
+          wires_are = ap (λ x. brought_wires_to (find_says x) what id slots wires) nothing ∙ sym (ap (λ x. issue_by id h x wires) nothing);
+        }
     by (Some b) e =
-        let known = known-of slots call (Some ticket) entries sound.known found in
+        let known = known-of slots call (Some ticket) entries sound.known at in
         let l = lives slots call ticket b (most entries) known sound.open_slots e in
-        let there = finds-in slots ticket b (most entries) (attempt + 1) l sound.open_slots (omega (arith, few)) within in
-        let here : look (ticket.first + (attempt + 1)) slots ≡ Unlocked l.r (attempt + 1) = look-at (ticket.first + (attempt + 1)) slots (Taken l.r) (ap (λ o. slot_at o slots) there.0 ∙ l.at) ∙ there.1 in
-        ap (λ o. brought_to o what (ticket.first + (attempt + 1)) moment slots) (ap find_says here ∙ ap Some (add-one attempt))
+        let id = ticket.first + (attempt + 1) in
+        let it = found slots entries ticket b (attempt + 1) l sound few within in
+        let says : find_says (look id slots) ≡ Some (suc attempt) = ap find_says it.looks ∙ ap Some (add-one attempt) in
+        record {
+          slots_are = ap (λ o. brought_to o what id slots) says;
+          wires_are = ap (λ o. brought_wires_to o what id slots wires) says;
+        }
 
--- A reply to an attempt.
-pub reply-moved : (slots : List (Slot Begun)) (entries : List (ℕ × Option Ticket)) (call : ℕ) (ticket : Ticket) (attempt code moment : ℕ) (text : List ℕ) (reply : Reply) → IsSound slots entries → length entries ≤ 500000
-    → lookup (nat_eq call) entries ≡ Some (Some ticket) → attempt + 1 < ticket.width → reply ≡ record { id = ticket.first + (attempt + 1); code = code; text = text }
-    → Follows slots (delivered reply moment slots) entries call (spec.event_after (event.Reply 0 attempt code text) moment)
-reply-moved slots entries call ticket attempt code moment text reply sound few found within is =
-    rw is (brought-moved slots entries call ticket attempt moment (ticket.first + (attempt + 1)) (λ k. event.Reply 0 k code text) sound few found within refl)
+-- What becomes of an attempt does to the calls what the plain machine does. The wires are those after the reply came in, or the attempt was lost.
+pub attempt-brings : (script : Script) (old : Replay) (wires : List Link) (call : ℕ) (ticket : Ticket) (attempt id : ℕ) (what : ℕ → Event) → IsReady script old → length old.calls.entries ≤ 500000 → AreSettled old.reached old.pool
+    → Some ticket ≡ ticket_in (lookup (nat_eq call) old.calls.entries) → attempt + 1 < ticket.width → id ≡ ticket.first + (attempt + 1) → IsWired script.servers old.pool wires
+    → Brings script.servers old.pool (brought what id old.pool) (brought_wires what id old.pool wires) old.marks old.calls.entries call (spec.event_after (what attempt) old.reached)
+attempt-brings script old wires call ticket attempt id what ready few settled found' within is wired =
+    let looked = some_ticket (lookup (nat_eq call) old.calls.entries) ticket (sym found') in
+    let f = spec.event_after (what attempt) old.reached in
+    let does = event-changes old.pool ticket (what attempt) old.reached (settled-at old.reached old.pool old.calls.entries call ticket settled ready.sound looked) in
+    let moved = brings script.servers old.pool wires old.marks old.calls.entries call ticket (turned (turn.Event (what attempt))) f (attempt + 1) does ready.sound few looked within wired ready.marked in
+    let same = is-brought old.pool wires old.calls.entries call ticket attempt what ready.sound few looked within in
+    rw is (subst (λ ws. Brings script.servers old.pool (brought what (ticket.first + (attempt + 1)) old.pool) ws old.marks old.calls.entries call f) (sym same.wires_are)
+    (subst (λ ss. Brings script.servers old.pool ss (issue_by (ticket.first + (attempt + 1)) (turned (turn.Event (what attempt))) (look (ticket.first + (attempt + 1)) old.pool) wires) old.marks old.calls.entries call f) (sym same.slots_are) moved))
 
--- ---- the wires
-
-pub set-length : {X : Type 0} (xs : List X) (i : ℕ) (x : X) → length (set xs i x) ≡ length xs
-set-length [] i x = refl
-set-length (y ∷ ys) zero x = refl
-set-length (y ∷ ys) (suc i) x = ap suc (set-length ys i x)
-
-pub All-set : {X : Type 0} (P : X → Type 0) (xs : List X) (i : ℕ) (x : X) → AllByRecursion P xs → P x → AllByRecursion P (set xs i x)
-All-set P [] i x all p = tt
-All-set P (y ∷ ys) zero x all p = (p, all.1)
-All-set P (y ∷ ys) (suc i) x all p = (all.0, All-set P ys i x all.1 p)
-
-pub All-at : {X : Type 0} (P : X → Type 0) (xs : List X) (i : ℕ) (x : X) → AllByRecursion P xs → slice_get xs i ≡ Some x → P x
-All-at P [] i x all e = absurd (cc)
-All-at P (y ∷ ys) zero x all e = let same : y ≡ x = cc in subst P same all.0
-All-at P (y ∷ ys) (suc i) x all e = All-at P ys i x all.1 e
-
-All-without : (P : ℕ × ℕ → Type 0) (id : ℕ) (xs : List (ℕ × ℕ)) → AllByRecursion P xs → AllByRecursion P (without id xs)
-All-without P id [] all = tt
-All-without P id (x ∷ xs) all = by (nat_eq id x.0) (All-without P id xs all.1)
-  where
-    by : (b : Bool) → AllByRecursion P (without id xs) → AllByRecursion P (if b then xs else x ∷ without id xs)
-    by true tail = all.1
-    by false tail = (all.0, tail)
-
--- Where a reply came in the wires are as many, and know no more ids.
-pub received-length : (server id : ℕ) (old new : List Link) → IsChangedAt server (received id) old new → length new ≡ length old
-received-length server id old new c = ap length c.is ∙ set-length old server (received id c.wire)
-
-pub received-waits : (slots : List (Slot Begun)) (server id : ℕ) (old new : List Link) → IsChangedAt server (received id) old new → AllByRecursion (IsWire slots) old → AllByRecursion (IsWire slots) new
-received-waits slots server id old new c all =
-    rw c.is (All-set (IsWire slots) old server (received id c.wire) all (All-without (λ entry. IsPast slots entry.0) id c.wire.waiting (All-at (IsWire slots) old server c.wire all c.at)))
+-- It may issue another attempt.
+pub attempt-may : (script : Script) (old : Replay) (wires : List Link) (call : ℕ) (ticket : Ticket) (attempt id : ℕ) → IsReady script old → length old.calls.entries ≤ 500000 → script.slots ≤ 4096
+    → Some ticket ≡ ticket_in (lookup (nat_eq call) old.calls.entries) → attempt + 1 < ticket.width → id ≡ ticket.first + (attempt + 1) → IsWired script.servers old.pool wires → LookMayIssue id old.pool wires
+attempt-may script old wires call ticket attempt id ready few slots found' within is wired =
+    let looked = some_ticket (lookup (nat_eq call) old.calls.entries) ticket (sym found') in
+    let n = ready.pool in
+    rw is (brings-may script.servers old.pool wires old.calls.entries call ticket (attempt + 1) ready.sound few looked within wired (omega (arith, n, slots)))

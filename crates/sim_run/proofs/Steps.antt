@@ -1,19 +1,21 @@
 -- What an event and a join make of the slots is what the plain machine makes of the calls.
-use Rattle.std.proofs.Common.{◌≡◌, ◌≢◌, ℕ, zero, suc, ◌+◌, ◌-◌, ◌*◌, ◌/◌, ◌^◌, ◌<◌, ◌≤◌, inl, inr, leb, ltb, ◌&&◌, true, false, nat_eq, List, [], ◌∷◌, length, slice_get, find, count_by, Option, None, Some, ap, sym, refl, ◌∙◌, subst, arith, if◌then◌else◌}
+use Rattle.std.proofs.Common.{◌≡◌, ◌≢◌, ℕ, ◌+◌, ◌-◌, ◌*◌, ◌/◌, ◌^◌, ◌<◌, ◌≤◌, inl, inr, leb, ltb, ◌&&◌, true, false, nat_eq, List, length, slice_get, find, count_by, Option, None, Some, ap, sym, refl, ◌∙◌, subst, arith, if◌then◌else◌}
 use Rattle.std.proofs.lemmas.Bool.Decides.{nat_tests}
 use Rattle.std.specs.List.{AllByRecursion}
 use Rattle.std.specs.Map.{lookup}
 use Rattle.std.specs.Option.{option_map}
 use Rattle.rpc_model.specs.declared.event.Event.{Event}
-use Rattle.rpc_model.specs.Marks.{Begun}
+use Rattle.rpc_model.specs.Plan.{Plan, leaf_plan, possible_attempts, width}
+use Rattle.rpc_model.specs.Marks.{Begun, apply, weave, most_marks}
 use Rattle.rpc_model.specs.Told.{Standing, begun, full, told_of, is_call, is_begun, change_first, event_after}
-use Rattle.rpc_model.proofs.Once.{event-number}
 use Rattle.id_pool.specs.Ids.{one_less, slot_of, version_of}
 use Rattle.id_pool.specs.Ranges.{Slot, Vacant, Retired, Taken, Range, Free, Nothing, Unlocked, offset, seen, seen_at, seen_in, look, slot_at, change, change_at, changed}
 use Rattle.id_pool.specs.Answers.{value_says}
 use Rattle.sim_run.specs.declared.ticket.Ticket.{Ticket}
-use Rattle.sim_run.specs.Slots.{visit, visit_by, visited, evented}
-use Rattle.sim_run.specs.Desk.{stand, standing_at, standings, IsOf, IsOfSlot, IsNumbered, IsKnown, is_taken, IsSlot, IsSound, IsPast}
+use Rattle.sim_run.specs.declared.open_call.Turn.TheVariants as turn
+use Rattle.sim_run.specs.Slots.{visit, visit_by, visited, turned}
+use Rattle.sim_run.specs.Desk.{stand, standing_at, standings, IsOf, IsOfSlot, IsNumbered, IsKnown, is_taken, IsRange, IsSlot, IsSound, IsPast}
+use Rattle.sim_run.proofs.Later.{IsLater, apply-moment, turned-later}
 use Rattle.sim_run.proofs.Changes.{look-at, seen-taken, changed-nothing, slice_get-change}
 use Rattle.sim_run.proofs.Apart.{same_id, IsNext, IsAside, StandsAside, stands-aside, past-change, length-change}
 use Rattle.sim_run.proofs.Entries.{one, moved, find-standing, change_first-nothing, count-change_first, count-change, All-change, slot-of-all, known-of}
@@ -49,7 +51,7 @@ lives-at slots range b bound (Some i) None p q of some open_ e = absurd of
 lives-at slots range b bound (Some i) (Some (Vacant next)) p q of some open_ e = absurd (cc)
 lives-at slots range b bound (Some i) (Some Retired) p q of some open_ e = absurd of
 lives-at slots range b bound (Some i) (Some (Taken r)) p q (inl own) some open_ e =
-    let free = (slot-of-all (IsSlot bound) i slots (Taken r) open_ q).1 in
+    let free = (slot-of-all (IsSlot bound) i slots (Taken r) open_ q).free in
     record { slot = i; r = r; here = p; at = q; version = own.0; width = own.1; free = free; value = value-at r (offset r (version_of range.first)) b e free }
 lives-at slots range b bound (Some i) (Some (Taken r)) p q (inr before) some open_ e =
     let none = nothing-before range r before some 0 some in
@@ -129,7 +131,7 @@ offset-in r k h =
 pub finds-in : (slots : List (Slot Begun)) (range : Ticket) (b : Begun) (bound k : ℕ) (l : Lives slots range b) → AllByRecursion (IsSlot bound) slots → bound < 2 ^ 32 → k < range.width
     → (slot_of (range.first + k) ≡ Some l.slot) × (seen (version_of (range.first + k)) (Taken l.r) ≡ Unlocked l.r k)
 finds-in slots range b bound k l open_ low within =
-    let top = (slot-of-all (IsSlot bound) l.slot slots (Taken l.r) open_ l.at).0 in
+    let top = (slot-of-all (IsSlot bound) l.slot slots (Taken l.r) open_ l.at).below in
     let v = l.version in
     let w = l.width in
     let fits : version_of range.first + k < 2 ^ 32 = omega (arith, top, v, w, low, within) in
@@ -143,25 +145,55 @@ visited-looks range slots b c l some =
     let zero_more : version_of range.first ≡ l.r.first + 0 = l.version ∙ omega arith in
     ap value_says (seen-taken (version_of range.first) (visited l.r c) (Some 0) Free (ap (offset l.r) zero_more ∙ offset-in l.r 0 (omega (arith, w, some))) refl)
 
--- An event that comes by an id of the call.
-pub event-lives : (slots : List (Slot Begun)) (entries : List (ℕ × Option Ticket)) (call : ℕ) (range : Ticket) (b : Begun) (event : Event) (moment k : ℕ) → IsSound slots entries → length entries ≤ 500000
+-- what a change of the call that a ticket's ids find makes of its standing, and of that of a call that was told
+pub record Changes (slots : List (Slot Begun)) (range : Ticket) (h : Begun → Begun) (f : Standing → Standing) : Type 0 where
+  pub on_begun : (b : Begun) → value_says (look range.first slots) ≡ Some b → f (begun b) ≡ begun (h b)
+  pub on_told : (call : ℕ) → f (told_of call) ≡ told_of call
+  pub later : (b : Begun) → IsLater b (h b)
+
+-- There is a version for each attempt that a call may issue, besides its own.
+plan-wide : (p : Plan) → possible_attempts p < width p
+plan-wide (leaf_plan leaf) = omega arith
+
+pub range-wide : (bound : ℕ) (r : Range Begun) → IsRange bound r → possible_attempts r.value.plan < r.size
+range-wide bound r range = let sized = range.sized in let wide = plan-wide r.value.plan in omega (arith, sized, wide)
+
+-- A range whose call was changed is one again.
+pub later-range : (bound : ℕ) (r s : Range Begun) → IsLater r.value s.value → s.first ≡ r.first → s.size ≡ r.size → s.standing ≡ Free → IsRange bound r → IsRange bound s
+later-range bound r s later first size free range =
+    let fewer = later.fewer in
+    let below = range.below in
+    let marks = range.few_marks in
+    let same_marks = ap most_marks later.plan in
+    let same_attempts = ap possible_attempts later.plan in
+    let few = later.few range.few_attempts in
+    record {
+      below = omega (arith, below, first, size);
+      free = free;
+      few_marks = omega (arith, fewer, marks, same_marks);
+      sized = size ∙ range.sized ∙ ap width (sym later.plan);
+      few_attempts = omega (arith, few, same_attempts);
+    }
+
+-- A change that comes by an id of the call.
+pub change-lives : (slots : List (Slot Begun)) (entries : List (ℕ × Option Ticket)) (call : ℕ) (range : Ticket) (b : Begun) (h : Begun → Begun) (f : Standing → Standing) (k : ℕ) → Changes slots range h f → IsSound slots entries → length entries ≤ 500000
     → lookup (nat_eq call) entries ≡ Some (Some range) → value_says (look range.first slots) ≡ Some b → k < range.width
-    → Follows slots (changed (visit (evented event moment) (version_of (range.first + k))) (range.first + k) slots) entries call (event_after event moment)
-event-lives slots entries call range b event moment k sound few found value within =
+    → Follows slots (changed (visit h (version_of (range.first + k))) (range.first + k) slots) entries call f
+change-lives slots entries call range b h f k does sound few found value within =
     let known = known-of slots call (Some range) entries sound.known found in
     let l = lives slots call range b (most entries) known sound.open_slots value in
     let low : most entries < 2 ^ 32 = omega (arith, few) in
     let here = finds-in slots range b (most entries) k l sound.open_slots low within in
-    let t = Taken (visited l.r (evented event moment l.r.value)) in
-    let g = visit (evented event moment) (version_of (range.first + k)) in
-    let is : g (Taken l.r) ≡ t = ap (λ x. visit_by (evented event moment) x (Taken l.r)) here.1 in
+    let t = Taken (visited l.r (h l.r.value)) in
+    let g = visit h (version_of (range.first + k)) in
+    let is : g (Taken l.r) ≡ t = ap (λ x. visit_by h x (Taken l.r)) here.1 in
     let top = slot-of-all (IsSlot (most entries)) l.slot slots (Taken l.r) sound.open_slots l.at in
-    let looks : value_says (seen (version_of range.first) t) ≡ Some (evented event moment b) =
-    visited-looks range slots b (evented event moment l.r.value) l known.0 ∙ ap (λ c. Some (evented event moment c)) l.value in
-    let number : (evented event moment b).call ≡ call = event-number event moment (begun b) ∙ subst (IsNumbered call) value known.2 in
-    let s = stepped slots entries call range b g t (event_after event moment) sound found value l is (refl, refl) (top.0, refl) (ap (stand call) (sym looks)) (inl (l.version, l.width)) (subst (IsNumbered call) (sym looks) number) refl in
+    let looks : value_says (seen (version_of range.first) t) ≡ Some (h b) = visited-looks range slots b (h l.r.value) l known.0 ∙ ap (λ c. Some (h c)) l.value in
+    let number : (h b).call ≡ call = (does.later b).number ∙ subst (IsNumbered call) value known.2 in
+    let stands : f (begun b) ≡ stand call (value_says (seen (version_of range.first) t)) = does.on_begun b value ∙ ap (stand call) (sym looks) in
+    let s = stepped slots entries call range b g t f sound found value l is (refl, refl, (does.later l.r.value).issues) (later-range (most entries) l.r (visited l.r (h l.r.value)) (does.later l.r.value) refl refl refl top) stands (inl (l.version, l.width)) (subst (IsNumbered call) (sym looks) number) (ap is_begun (does.on_begun b value)) in
     let same : changed g (range.first + k) slots ≡ change l.slot g slots = ap (λ o. change_at o g slots) here.0 in
-    subst (λ after. Follows slots after entries call (event_after event moment)) (sym same) s
+    subst (λ after. Follows slots after entries call f) (sym same) s
 
 -- The ids of a call that was told find nothing.
 pub record IsOver (slots : List (Slot Begun)) (range : Ticket) : Type 0 where
@@ -179,13 +211,13 @@ over-at slots range bound (Some i) (Some (Vacant next)) p q of some open_ low e 
     record { slot = Vacant next; at = ap (λ o. slot_at o slots) p ∙ q; low = omega (arith, of, top, low); nothing = λ k within. refl }
 over-at slots range bound (Some i) (Some Retired) p q of some open_ low e = absurd of
 over-at slots range bound (Some i) (Some (Taken r)) p q (inl own) some open_ low e =
-    let free = (slot-of-all (IsSlot bound) i slots (Taken r) open_ q).1 in
+    let free = (slot-of-all (IsSlot bound) i slots (Taken r) open_ q).free in
     let w = own.1 in
     let zero_more : version_of range.first ≡ r.first + 0 = own.0 ∙ omega arith in
     let seen' = ap value_says (seen-taken (version_of range.first) r (Some 0) Free (ap (offset r) zero_more ∙ offset-in r 0 (omega (arith, w, some))) free) in
     absurd (cc)
 over-at slots range bound (Some i) (Some (Taken r)) p q (inr before) some open_ low e =
-    let top = (slot-of-all (IsSlot bound) i slots (Taken r) open_ q).0 in
+    let top = (slot-of-all (IsSlot bound) i slots (Taken r) open_ q).below in
     record { slot = Taken r; at = ap (λ o. slot_at o slots) p ∙ q; low = omega (arith, before, top, low); nothing = nothing-before range r before some }
 
 pub is-over : (slots : List (Slot Begun)) (call : ℕ) (range : Ticket) (bound : ℕ) → IsKnown slots call (Some range) → AllByRecursion (IsSlot bound) slots → bound < 2 ^ 32 → value_says (look range.first slots) ≡ None → IsOver slots range
@@ -214,26 +246,38 @@ over-standing slots entries call range known found none = find-standing slots ca
 pub idle-if : (f : Standing → Standing) (y : Standing) (o : Option Standing) → o ≡ Some y → f y ≡ y → (x : Standing) → o ≡ Some x → f x ≡ x
 idle-if f y o p idle x q = let same : y ≡ x = let both : Some y ≡ Some x = sym p ∙ q in cc in subst (λ z. f z ≡ z) same idle
 
-event-over : (slots : List (Slot Begun)) (entries : List (ℕ × Option Ticket)) (call : ℕ) (range : Ticket) (event : Event) (moment k : ℕ) → IsSound slots entries → length entries ≤ 500000
+change-over : (slots : List (Slot Begun)) (entries : List (ℕ × Option Ticket)) (call : ℕ) (range : Ticket) (h : Begun → Begun) (f : Standing → Standing) (k : ℕ) → Changes slots range h f → IsSound slots entries → length entries ≤ 500000
     → lookup (nat_eq call) entries ≡ Some (Some range) → value_says (look range.first slots) ≡ None → k < range.width
-    → Follows slots (changed (visit (evented event moment) (version_of (range.first + k))) (range.first + k) slots) entries call (event_after event moment)
-event-over slots entries call range event moment k sound few found none within =
+    → Follows slots (changed (visit h (version_of (range.first + k))) (range.first + k) slots) entries call f
+change-over slots entries call range h f k does sound few found none within =
     let known = known-of slots call (Some range) entries sound.known found in
     let low : most entries < 2 ^ 32 = omega (arith, few) in
     let o = is-over slots call range (most entries) known sound.open_slots low none in
-    let same = over-nothing slots range o k (λ v. visit (evented event moment) v) within (λ v s e. ap (λ x. visit_by (evented event moment) x s) e) in
-    let idle = change_first-nothing (is_call call) (event_after event moment) (standings slots entries) (idle-if (event_after event moment) (told_of call) _ (over-standing slots entries call range sound.known found none) refl) in
-    subst (λ after. Follows slots after entries call (event_after event moment)) (sym same) (record { stands = sym idle; sound = sound; past = λ id h. h; size = refl })
+    let same = over-nothing slots range o k (λ v. visit h v) within (λ v s e. ap (λ x. visit_by h x s) e) in
+    let idle = change_first-nothing (is_call call) f (standings slots entries) (idle-if f (told_of call) _ (over-standing slots entries call range sound.known found none) (does.on_told call)) in
+    subst (λ after. Follows slots after entries call f) (sym same) (record { stands = sym idle; sound = sound; past = λ id h. h; size = refl })
 
--- An event that comes by an id of the call does to the calls what the plain machine does.
-pub event-moved : (slots : List (Slot Begun)) (entries : List (ℕ × Option Ticket)) (call : ℕ) (range : Ticket) (event : Event) (moment k : ℕ) → IsSound slots entries → length entries ≤ 500000
+-- A change that comes by an id of the call does to the calls what the plain machine does.
+pub change-moved : (slots : List (Slot Begun)) (entries : List (ℕ × Option Ticket)) (call : ℕ) (range : Ticket) (h : Begun → Begun) (f : Standing → Standing) (k : ℕ) → Changes slots range h f → IsSound slots entries → length entries ≤ 500000
     → lookup (nat_eq call) entries ≡ Some (Some range) → k < range.width
-    → Follows slots (changed (visit (evented event moment) (version_of (range.first + k))) (range.first + k) slots) entries call (event_after event moment)
-event-moved slots entries call range event moment k sound few found within = by (value_says (look range.first slots)) refl
+    → Follows slots (changed (visit h (version_of (range.first + k))) (range.first + k) slots) entries call f
+change-moved slots entries call range h f k does sound few found within = by (value_says (look range.first slots)) refl
   where
-    by : (x : Option Begun) → value_says (look range.first slots) ≡ x → Follows slots (changed (visit (evented event moment) (version_of (range.first + k))) (range.first + k) slots) entries call (event_after event moment)
-    by None e = event-over slots entries call range event moment k sound few found e within
-    by (Some b) e = event-lives slots entries call range b event moment k sound few found e within
+    by : (x : Option Begun) → value_says (look range.first slots) ≡ x → Follows slots (changed (visit h (version_of (range.first + k))) (range.first + k) slots) entries call f
+    by None e = change-over slots entries call range h f k does sound few found e within
+    by (Some b) e = change-lives slots entries call range b h f k does sound few found e within
+
+-- where the ids of a call find no due mark
+abbrev pub IsSettledAt : ℕ → List (Slot Begun) → Ticket → Type 0
+IsSettledAt moment slots range = (b : Begun) → value_says (look range.first slots) ≡ Some b → weave moment b ≡ b
+
+-- An event does what the plain machine's does, where no mark of the call is due.
+pub event-changes : (slots : List (Slot Begun)) (range : Ticket) (event : Event) (moment : ℕ) → IsSettledAt moment slots range → Changes slots range (turned (turn.Event event)) (event_after event moment)
+event-changes slots range event moment settled = record {
+  on_begun = λ b e. ap begun (ap (λ d. apply d event moment) (settled b e) ∙ apply-moment b event moment 0);
+  on_told = λ call. refl;
+  later = λ b. turned-later (turn.Event event) b;
+}
 
 -- An event of a call without ids does nothing.
 pub event-nothing : (slots : List (Slot Begun)) (entries : List (ℕ × Option Ticket)) (call : ℕ) (event : Event) (moment : ℕ) → AllByRecursion (λ entry. IsKnown slots entry.0 entry.1) entries

@@ -12,9 +12,18 @@ use Rattle.std.specs.declared.option.Option.{Option}
 use Rattle.rpc_model.specs.Fits.{IsChan, IsMoment, moment_of, called}
 use Rattle.rpc_model.specs.Moments.{IsBy}
 use Rattle.rpc_model.specs.Told.{Replay, after, tells, told_from}
+use Rattle.rpc_model.specs.Early.{settled, AreSparse}
 use Rattle.rpc_model.proofs.MomentsStay.{after-by}
+use Rattle.rpc_model.proofs.Early.{tells-same, after-settled}
 use Rattle.sim_run.specs.declared.ticket.Ticket.{Ticket}
 use Rattle.sim_run.specs.Desk.{IsNew, IsFront}
+
+-- The plain machine's replay tells what this one tells, and both take the line alike.
+pub alike-tells : (script : Script) (now machine : Replay) (act : Act) → AreSparse now → AreSparse machine → settled now ≡ settled machine → tells script now act ≡ tells script machine act
+alike-tells script now machine act few few' alike = sym (tells-same script now act few) ∙ ap (λ r. tells script r act) alike ∙ tells-same script machine act few'
+
+pub alike-after : (script : Script) (now machine next : Replay) (act : Act) → AreSparse now → AreSparse machine → settled now ≡ settled machine → settled next ≡ settled (after script now act) → settled next ≡ settled (after script machine act)
+alike-after script now machine next act few few' alike is = is ∙ sym (after-settled script now act few) ∙ ap (λ r. settled (after script r act)) alike ∙ after-settled script machine act few'
 
 -- What was told, with what this line tells, goes on to the same.
 pub turn-tells : (script : Script) (replay next : Replay) (so_far now all : List Told) (acts : List Act) (i : ℕ) (act : Act) → i < length acts → act ≡ get_or acts i act

@@ -2,10 +2,12 @@
 use Rattle.std.specs.Prelude.{◌≡◌, ℕ, ◌+◌, ◌*◌, ◌<◌, ◌≤◌, ◌⊎◌, ◌==◌, ◌&&◌, Bool, true, false, nat_eq, nat_lt, if◌then◌else◌, List, [], ◌∷◌, ◌++◌, map, take, length, count_by, Option, None, Some}
 use Rattle.std.specs.List.{IsDistinct, AllByRecursion}
 use Rattle.std.specs.Map.{keys_of}
-use Rattle.rpc_model.specs.Marks.{Begun}
+use Rattle.rpc_model.specs.Plan.{possible_attempts, width}
+use Rattle.rpc_model.specs.Machine.{attempts}
+use Rattle.rpc_model.specs.Marks.{Begun, most_marks}
 use Rattle.rpc_model.specs.Told.{Standing, begun, full, told_of, is_begun}
 use Rattle.id_pool.specs.Ids.{slot_of, version_of}
-use Rattle.id_pool.specs.Ranges.{Slot, Vacant, Retired, Taken, Free, slot_at, look}
+use Rattle.id_pool.specs.Ranges.{Slot, Range, Vacant, Retired, Taken, Free, slot_at, look}
 use Rattle.id_pool.specs.Answers.{value_says}
 use Rattle.rpc_model.specs.declared.script.Script.{Script}
 use Rattle.rpc_model.specs.declared.script.Act.{Act}
@@ -15,6 +17,8 @@ use Rattle.rpc_model.specs.Told as spec
 use Rattle.sim_run.specs.declared.ticket.Ticket.{Ticket}
 use Rattle.sim_run.specs.declared.state.Replay.{Replay}
 use Rattle.sim_run.specs.Link.{Link}
+use Rattle.sim_run.specs.Sends.{AreServers, AreSent}
+use Rattle.sim_run.specs.Marked.{AreMarked, AreFirstIds}
 
 -- the id of an attempt of the leaf that is a plain channel's plan
 abbrev pub attempt_id : Ticket → ℕ → ℕ → Option ℕ
@@ -69,11 +73,25 @@ is_taken (Vacant next) = false
 is_taken Retired = false
 is_taken (Taken r) = true
 
+-- a range whose versions are below a bound and as many as its call's plan asks for, with few marks and few attempts
+pub record IsRange (bound : ℕ) (r : Range Begun) : Type 0 where
+  pub below : r.first + r.size ≤ bound
+  pub free : r.standing ≡ Free
+  pub few_marks : length r.value.waiting ≤ most_marks r.value.plan
+  pub sized : r.size ≡ width r.value.plan
+  pub few_attempts : attempts r.value.state ≤ possible_attempts r.value.plan
+
 -- no slot is retired or locked, and its versions so far are below a bound
 abbrev pub IsSlot : ℕ → Slot Begun → Type 0
 IsSlot bound (Vacant next) = next ≤ bound
 IsSlot bound Retired = ⊥
-IsSlot bound (Taken r) = (r.first + r.size ≤ bound) × (r.standing ≡ Free)
+IsSlot bound (Taken r) = IsRange bound r
+
+-- each server of the slot's call is one of so many
+abbrev pub IsServed : ℕ → Slot Begun → Type 0
+IsServed servers (Vacant next) = Unit {0}
+IsServed servers Retired = Unit {0}
+IsServed servers (Taken r) = AreServers servers r.value.plan
 
 -- the calls and the slots agree: each call once, with ids of its own, and as many slots are taken as calls have begun and weren't told
 pub record IsSound (slots : List (Slot Begun)) (entries : List (ℕ × Option Ticket)) : Type 0 where
@@ -83,19 +101,26 @@ pub record IsSound (slots : List (Slot Begun)) (entries : List (ℕ × Option Ti
   pub open_slots : AllByRecursion (IsSlot (1 + 1024 * length entries)) slots
   pub counted : count_by is_begun (standings slots entries) ≡ count_by is_taken slots
 
--- an id is of a slot, and its version is one that the slot had or has
+-- an id is of a slot, and its version is one that the slot had, or in its range that of an attempt which the call issued
 abbrev pub IsPastIn : ℕ → Option (Slot Begun) → Type 0
 IsPastIn version None = ⊥
 IsPastIn version (Some (Vacant next)) = version < next
 IsPastIn version (Some Retired) = Unit {0}
-IsPastIn version (Some (Taken r)) = version < r.first + r.size
+IsPastIn version (Some (Taken r)) = version ≤ r.first + attempts r.value.state
 
 abbrev pub IsPast : List (Slot Begun) → ℕ → Type 0
 IsPast slots id = IsPastIn (version_of id) (slot_at (slot_of id) slots)
 
--- no id that waits on a wire is one of a range to come
+-- no id that waits on a wire is one of an attempt to come
 abbrev pub IsWire : List (Slot Begun) → Link → Type 0
 IsWire slots wire = AllByRecursion (λ entry. IsPast slots entry.0) wire.waiting
+
+-- the wires, one for each server, fit the slots: no id waits of an attempt to come, and each attempt that was issued was sent to its server
+pub record IsWired (servers : ℕ) (slots : List (Slot Begun)) (wires : List Link) : Type 0 where
+  pub size : length wires ≡ servers
+  pub waiting : AllByRecursion (IsWire slots) wires
+  pub served : AllByRecursion (IsServed servers) slots
+  pub sent : AreSent slots wires
 
 abbrev pub IsOn : ℕ → Option Ticket → Type 0
 IsOn chans None = Unit {0}
@@ -109,9 +134,10 @@ replay_of replay = record { reached = replay.reached; calls = standings replay.p
 pub record IsReady (script : Script) (replay : Replay) : Type 0 where
   pub sound : IsSound replay.pool replay.calls.entries
   pub pool : length replay.pool ≡ script.slots
-  pub servers : length replay.wires.items ≡ script.servers
-  pub waiting : AllByRecursion (IsWire replay.pool) replay.wires.items
+  pub wired : IsWired script.servers replay.pool replay.wires.items
   pub channels : AllByRecursion (λ entry. IsOn (length script.chans) entry.1) replay.calls.entries
+  pub marked : AreMarked replay.marks replay.pool
+  pub marks : AreFirstIds replay.calls.entries replay.marks
 
 -- the ticket that a look-up finds
 abbrev pub ticket_in : Option (Option Ticket) → Option Ticket

@@ -2,4 +2,6 @@ pub mod Calls
 pub mod Slots
 pub mod Desk
 pub mod Wires
+pub mod Sends
+pub mod Marked
 pub mod Link

@@ -11,6 +11,10 @@ use Rattle.sim_run.specs.declared.slots.Finished.{Finished}
 use Rattle.rpc_model.specs.declared.event.Event.TheVariants as event
 use Rattle.id_pool.specs.Answers.{find_says}
 use Rattle.sim_run.specs.declared.wire.Reply.{Reply}
+use Rattle.sim_run.specs.declared.open_call.Turn.{Turn}
+use Rattle.sim_run.specs.declared.open_call.Turn.TheVariants as turn
+use Rattle.sim_run.specs.Link.{Link}
+use Rattle.sim_run.specs.Sends.{issue_by}
 use Rattle.id_pool.specs.Ranges.{changed, look, Range, Slot, Taken, Seen, Nothing, Unlocked, Locked, Free, seen, left_by, with_value}
 
 -- a range whose holder left this value and let it go
@@ -35,9 +39,10 @@ touch_by f (Locked r k waiting) slot = Taken (with_value r (f r.value))
 abbrev pub touch : {T : Type 0} → (T → T) → ℕ → Slot T → Slot T
 touch f version slot = touch_by f (seen version slot) slot
 
--- an event comes to a call at a moment, after the marks that are due
-abbrev pub evented : Event → ℕ → Begun → Begun
-evented event moment b = apply (weave moment b) event moment
+-- what comes to a call: an event, or the moment that is reached. The moment of an event sets no mark.
+abbrev pub turned : Turn → Begun → Begun
+turned (turn.Event event) b = apply b event 0
+turned (turn.Due moment) b = weave moment b
 
 -- The id is the first of the range that it finds unlocked, if it finds one.
 abbrev pub IsFirst : {T : Type 0} → ℕ → List (Slot T) → Type 0
@@ -74,18 +79,27 @@ join_says reached (Unlocked r k) = Some ((finish reached r.value).0, join_end (f
 join_says reached (Locked r k waiting) = None
 
 -- what becomes of an attempt is brought to the call by the attempt's id: it is named by the place of its id behind the call's own
-abbrev pub brought_to : Option ℕ → (ℕ → Event) → ℕ → ℕ → List (Slot Begun) → List (Slot Begun)
-brought_to None what id moment slots = slots
-brought_to (Some zero) what id moment slots = slots
-brought_to (Some (suc k)) what id moment slots = changed (visit (evented (what k) moment) (version_of id)) id slots
+abbrev pub brought_to : Option ℕ → (ℕ → Event) → ℕ → List (Slot Begun) → List (Slot Begun)
+brought_to None what id slots = slots
+brought_to (Some zero) what id slots = slots
+brought_to (Some (suc k)) what id slots = changed (visit (turned (turn.Event (what k))) (version_of id)) id slots
 
-abbrev pub brought : (ℕ → Event) → ℕ → ℕ → List (Slot Begun) → List (Slot Begun)
-brought what id moment slots = brought_to (find_says (look id slots)) what id moment slots
+abbrev pub brought : (ℕ → Event) → ℕ → List (Slot Begun) → List (Slot Begun)
+brought what id slots = brought_to (find_says (look id slots)) what id slots
 
--- what a reply does to the slots
-abbrev pub delivered : Reply → ℕ → List (Slot Begun) → List (Slot Begun)
-delivered reply moment slots = brought (λ k. event.Reply 0 k reply.code reply.text) reply.id moment slots
+-- what the wires are then
+abbrev pub brought_wires_to : Option ℕ → (ℕ → Event) → ℕ → List (Slot Begun) → List Link → List Link
+brought_wires_to None what id slots wires = wires
+brought_wires_to (Some zero) what id slots wires = wires
+brought_wires_to (Some (suc k)) what id slots wires = issue_by id (turned (turn.Event (what k))) (look id slots) wires
 
--- what the loss of an attempt does to the slots
-abbrev pub lost : ℕ → ℕ → ℕ → List (Slot Begun) → List (Slot Begun)
-lost id code moment slots = brought (λ k. event.Lost 0 k code) id moment slots
+abbrev pub brought_wires : (ℕ → Event) → ℕ → List (Slot Begun) → List Link → List Link
+brought_wires what id slots wires = brought_wires_to (find_says (look id slots)) what id slots wires
+
+-- what a reply says of the attempt of this number
+abbrev pub reply_event : Reply → ℕ → Event
+reply_event reply k = event.Reply 0 k reply.code reply.text
+
+-- what the loss of an attempt says of it
+abbrev pub loss_event : ℕ → ℕ → Event
+loss_event code k = event.Lost 0 k code

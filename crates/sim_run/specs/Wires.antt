@@ -1,5 +1,5 @@
 -- The wires of a replay: what a request that is sent and a reply that comes in make of them. This project's own choice.
-use Rattle.std.specs.Prelude.{◌≡◌, ℕ, List, [], ◌∷◌, ◌++◌, set, slice_get, Option, None, Some}
+use Rattle.std.specs.Prelude.{◌≡◌, ℕ, zero, suc, List, [], ◌∷◌, ◌++◌, set, slice_get, Option, None, Some}
 use Rattle.link_core.specs.Outstanding.{without}
 use Rattle.rpc_model.specs.declared.chan.Chan.{Chan}
 use Rattle.rpc_model.specs.declared.chan.Chan.TheVariants as chan
@@ -11,6 +11,12 @@ pub record IsChangedAt (server : ℕ) (f : Link → Link) (old new : List Link) 
   pub wire : Link
   pub at : slice_get old server ≡ Some wire
   pub is : new ≡ set old server (f wire)
+
+-- the wires after the one of this number was changed
+abbrev pub on_wire : ℕ → (Link → Link) → List Link → List Link
+on_wire server f [] = []
+on_wire zero f (wire ∷ wires) = f wire ∷ wires
+on_wire (suc server) f (wire ∷ wires) = wire ∷ on_wire server f wires
 
 -- a wire on which a request went out
 abbrev pub sent : ℕ → ℕ → List ℕ → Link → Link

@@ -1,20 +1,31 @@
 //! A call that has begun and was not told.
 
-ghost use Rattle.std.specs.Prelude.{◌≡◌, ℕ, ◌+◌, ◌^◌, ◌<◌, ◌≤◌, Option, None, Some, is_some};
+ghost use Rattle.std.specs.Prelude.{◌≡◌, ℕ, ◌+◌, ◌^◌, ◌<◌, ◌≤◌, Option, None, Some, is_some, IfOk};
 ghost use Rattle.rpc_model.specs.Plan.{leaf_plan};
+ghost use Rattle.sim_run.specs.Sends.{HasServer, server_in};
 ghost use Rattle.rpc_model.specs.Machine.{end_of, attempts};
 ghost use Rattle.rpc_model.specs.Told.{join_end};
 ghost use Rattle.rpc_model.specs.Marks.{begin, apply, weave, finish};
 ghost use Rattle.rpc_model.specs.Fits.{IsWait};
 ghost use Rattle.call_leaf.specs.Keeps.{event_of};
 ghost use Rattle.sim_run.specs.Calls.{due_after, stepped, taken_due, finished_once};
-ghost use Rattle.sim_run.specs.Slots.{evented};
+ghost use Rattle.sim_run.specs.Slots.{turned};
 
+use crate::wires::server_of;
 use call_leaf::{Leaf, LeafEvent, LeafStep};
-use rpc_base::Bytes;
+use rpc_base::{Bytes, NoMemory};
 use rpc_model::{ECANCELED, End, Event, LeafChan, Told};
 use std::alloc::Global;
 use std::marker::Model;
+
+/// What comes to a call.
+#[derive(Drop)]
+pub(crate) enum Turn {
+    /// An outer event, or what became of an attempt.
+    Event(Event),
+    /// This moment is reached, in milliseconds.
+    Due(u64),
+}
 
 /// A call on a plain channel: its attempts, its end, and its marks that weren't taken.
 #[derive(Drop)]
@@ -99,12 +110,36 @@ impl OpenCall {
         }
     }
 
-    /// Takes an outer event at a moment, after the marks that are due.
-    pub(crate) fn take(&mut self, event: Event, moment: u64)
-        ensures { self.new ≡ evented event moment self.old }
+    /// How many attempts it has issued.
+    pub(crate) fn issued(&self) -> u32
+        ensures { result ≡ attempts self.now.state }
     {
-        self.weave(moment);
-        self.apply(event);
+        self.leaf.issued()
+    }
+
+    /// The server of an attempt.
+    pub(crate) fn server(&self, attempt: u32) -> u32
+        requires { HasServer self.now.plan }
+        ensures { result ≡ server_in self.now.plan self.now.call attempt }
+    {
+        server_of(&self.chan, self.call, attempt)
+    }
+
+    /// A copy of its request.
+    pub(crate) fn request(&self) -> Result<Bytes, NoMemory>
+        ensures { IfOk result (λ request. request ≡ self.now.request) }
+    {
+        Ok(Bytes::of(Vec::from_slice(self.alloc, self.request.list())?))
+    }
+
+    /// Takes what comes to it.
+    pub(crate) fn take(&mut self, turn: Turn)
+        ensures { self.new ≡ turned turn self.old }
+    {
+        match turn {
+            Turn::Event(event) => self.apply(event),
+            Turn::Due(moment) => self.weave(moment),
+        }
     }
 
     /// Takes the marks that are due.

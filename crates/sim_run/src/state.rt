@@ -1,35 +1,39 @@
 ghost use Rattle.std.specs.Prelude.{◌≡◌, ℕ, ◌+◌, ◌*◌, ◌^◌, ◌<◌, ◌≤◌, List, [], ◌∷◌, ◌++◌, max, nat_eq, length, find, take, Option, None, Some, OnOk, OnErr, IfOk, All, false};
 ghost use Rattle.std.specs.Map.{keys_of, lookup};
-ghost use Rattle.rpc_model.specs.Fits.{Fits, IsAct, IsMoment, IsChan, IsLeaf, called};
+ghost use Rattle.rpc_model.specs.Fits.{Fits, IsAct, IsMoment, IsWait, called};
 ghost use Rattle.rpc_model.specs.Machine.{server_of};
 ghost use Rattle.rpc_model.specs.Plan.{leaf_plan, plan};
 ghost use Rattle.rpc_model.specs.Told as spec;
 ghost use Rattle.rpc_model.specs.declared.event.Event.TheVariants as event;
+ghost use Rattle.rpc_model.specs.Early.{settled};
 ghost use Rattle.sim_run.specs.Desk.{IsReady, replay_of, ticket_in, IsNew};
+ghost use Rattle.sim_run.specs.Marked.{AreSettled, with_mark, with_marks};
 ghost use Rattle.std.specs.List.{AllByRecursion, IsDistinct};
 ghost use Rattle.link_core.specs.Outstanding.{is_outstanding};
 ghost use Rattle.rpc_model.specs.declared.told.Told.TheVariants.{Full as full};
 ghost use Rattle.sim_run.specs.Wires.{IsChangedAt, sent, server_on};
 
-use crate::open_call::OpenCall;
+use crate::open_call::{OpenCall, Turn};
 use crate::slots::{bring, deliver, join, lose, take_slot};
 use crate::ticket::Ticket;
 use crate::wire::Wire;
-use crate::wires::{forget, open_wires, receive, send, server_on};
+use crate::wires::{forget, leaf_of, open_wires, receive, send, server_on};
 use id_pool::Pool;
 use indexmap::IndexMap;
 use rpc_base::{Bytes, List, NoMemory};
-use rpc_model::{Act, Chan, Event, LeafChan, Script, Told};
+use rpc_model::{Act, EBACKUPREQUEST, ERPCTIMEDOUT, Event, LeafChan, Script, Told};
 use std::alloc::Global;
+use timer_core::{Mark, Marks};
 
 /// The moment reached, in milliseconds; the calls by their numbers, in the order of their lines, `None` where a call found
-/// no slot; the slots; and a wire for each server.
+/// no slot; the slots; a wire for each server; and the marks of all calls, each with the first id of its call.
 #[derive(Drop)]
 pub(crate) struct Replay {
     reached: u64,
     calls: IndexMap<u32, Option<Ticket>>,
     pool: Pool<OpenCall>,
     wires: Vec<Wire>,
+    marks: Marks,
 }
 
 impl Replay {
@@ -45,6 +49,7 @@ impl Replay {
             calls: IndexMap::new(alloc),
             pool: Pool::open(alloc, script.slots)?,
             wires: open_wires(alloc, script.servers)?,
+            marks: Marks::open(alloc),
         })
     }
 
@@ -58,19 +63,46 @@ impl Replay {
         }
     }
 
-    /// An event of a call that comes by the call's own id.
-    fn event(&mut self, script: &Script, moment: u64, call: u32, event: Event)
+    /// A moment is reached: the marks that are due are taken, each by the call that its id finds. A mark of a call that was
+    /// told finds none.
+    fn reach(&mut self, script: &Script, moment: u64) -> Result<(), NoMemory>
+        requires fits { Fits script.now }
         requires ready { IsReady script.now self.old }
         requires few { length self.old.calls.entries ≤ 500000 }
-        ensures ready { IsReady script.now self.new }
-        ensures after { replay_of self.new ≡ spec.call_event (replay_of self.old) moment call event }
-        ensures calls { self.new.calls ≡ self.old.calls }
+        requires later { self.old.reached ≤ moment }
+        ensures ready { OnOk result (IsReady script.now self.new) }
+        ensures settled { OnOk result (AreSettled moment self.new.pool) }
+        ensures after { OnOk result (settled (replay_of self.new) ≡ settled (record (replay_of self.old) { reached = moment })) }
+        ensures reached { OnOk result (self.new.reached ≡ moment) }
+        ensures calls { OnOk result (self.new.calls ≡ self.old.calls) }
     {
         self.reached = moment;
-        match self.ticket(call) {
-            Some(ticket) => bring(&mut self.pool, ticket.first, event, moment),
-            None => {}
+        'taken: while let Some(mark) = self.marks.due(moment) {
+            bring(&mut self.pool, &mut self.wires, mark.id, Turn::Due(moment))?;
         }
+        Ok(())
+    }
+
+    /// An event of a call that comes by the call's own id.
+    fn event(&mut self, script: &Script, call: u32, event: Event) -> Result<(), NoMemory>
+        requires fits { Fits script.now }
+        requires ready { IsReady script.now self.old }
+        requires few { length self.old.calls.entries ≤ 500000 }
+        requires settled { AreSettled self.old.reached self.old.pool }
+        ensures ready { OnOk result (IsReady script.now self.new) }
+        ensures after { OnOk result (replay_of self.new ≡ spec.call_event (replay_of self.old) self.old.reached call event) }
+        ensures calls { OnOk result (self.new.calls ≡ self.old.calls) }
+    {
+        let Some(ticket) = self.ticket(call) else {
+            return Ok(());
+        };
+        bring(
+            &mut self.pool,
+            &mut self.wires,
+            ticket.first,
+            Turn::Event(event),
+        )?;
+        Ok(())
     }
 
     /// A call line: the call takes a slot and sends its first attempt, or finds no slot.
@@ -78,7 +110,6 @@ impl Replay {
         &mut self,
         alloc: Global,
         script: &Script,
-        moment: u64,
         call: u32,
         chan: u32,
         text: &Bytes,
@@ -87,11 +118,11 @@ impl Replay {
         requires fits { Fits script.now }
         requires ready { IsReady script.now self.old }
         requires few { length self.old.calls.entries ≤ 500000 }
-        requires early { moment < 2 ^ 60 }
+        requires early { self.old.reached < 2 ^ 60 }
         requires chan { chan < length script.now.chans }
         requires new { lookup (nat_eq call) self.old.calls.entries ≡ None }
         ensures ready { OnOk result (IsReady script.now self.new) }
-        ensures after { OnOk result (replay_of self.new ≡ spec.call_after script.now (replay_of self.old) moment call text.now (plan script.now.chans chan call)) }
+        ensures after { OnOk result (replay_of self.new ≡ spec.call_after script.now (replay_of self.old) self.old.reached call text.now (plan script.now.chans chan call)) }
         ensures tells { OnOk result (told.new.items ≡ told.old.items ++ spec.call_tells (spec.is_full script.now (replay_of self.old)) call (plan script.now.chans chan call)) }
         ensures calls { OnOk result (keys_of self.new.calls.entries ≡ keys_of self.old.calls.entries ++ call ∷ []) }
         ensures kept { OnErr result (told.new.items ≡ told.old.items) }
@@ -99,12 +130,12 @@ impl Replay {
         let leaf = leaf_of(script, chan);
         let width = leaf.retry + 2;
         let owned = clone_leaf(alloc, leaf)?;
-        let open = OpenCall::begin(alloc, call, owned, clone_bytes(alloc, text)?, moment);
-        self.reached = moment;
+        let open = OpenCall::begin(alloc, call, owned, clone_bytes(alloc, text)?, self.reached);
         let Some(first) = take_slot(&mut self.pool, width, open) else {
             self.refuse(call, told)?;
             return Ok(());
         };
+        set_marks(&mut self.marks, first, leaf, self.reached)?;
         let text = clone_bytes(alloc, text)?;
         self.begin(script, call, Ticket { first, width, chan }, text)?;
         Ok(())
@@ -127,7 +158,7 @@ impl Replay {
         ensures sent { OnOk result (IsChangedAt (server_on script.now.chans ticket.chan call 0) (sent (ticket.first + 1) call text) self.old.wires.items self.new.wires.items) }
         ensures calls { OnOk result (self.new.calls.entries ≡ self.old.calls.entries ++ (call, Some ticket) ∷ []) }
         ensures once { OnOk result (IsDistinct nat_eq (keys_of self.new.calls.entries)) }
-        ensures same { (self.new.pool ≡ self.old.pool) × (self.new.reached ≡ self.old.reached) }
+        ensures same { (self.new.pool ≡ self.old.pool) × (self.new.reached ≡ self.old.reached) × (self.new.marks ≡ self.old.marks) }
     {
         let server = server_on(script, ticket.chan, call, 0);
         send(&mut self.wires, server, ticket.first + 1, call, text)?;
@@ -140,7 +171,7 @@ impl Replay {
         requires new { lookup (nat_eq call) self.old.calls.entries ≡ None }
         ensures calls { OnOk result (self.new.calls.entries ≡ self.old.calls.entries ++ (call, None) ∷ []) }
         ensures once { OnOk result (IsDistinct nat_eq (keys_of self.new.calls.entries)) }
-        ensures same { (self.new.pool ≡ self.old.pool) × (self.new.reached ≡ self.old.reached) × (self.new.wires ≡ self.old.wires) }
+        ensures same { (self.new.pool ≡ self.old.pool) × (self.new.reached ≡ self.old.reached) × (self.new.wires ≡ self.old.wires) × (self.new.marks ≡ self.old.marks) }
         ensures tells { OnOk result (told.new.items ≡ told.old.items ++ full call ∷ []) }
         ensures kept { OnErr result (told.new.items ≡ told.old.items) }
     {
@@ -154,7 +185,6 @@ impl Replay {
         &mut self,
         alloc: Global,
         script: &Script,
-        moment: u64,
         call: u32,
         node: u32,
         attempt: u32,
@@ -164,14 +194,14 @@ impl Replay {
         requires fits { Fits script.now }
         requires ready { IsReady script.now self.old }
         requires few { length self.old.calls.entries ≤ 500000 }
+        requires settled { AreSettled self.old.reached self.old.pool }
         requires code { code ≤ 65535 }
         requires text { length text.now ≤ 60000 }
         ensures ready { OnOk result (IsReady script.now self.new) }
-        ensures after { OnOk result (replay_of self.new ≡ spec.call_event (replay_of self.old) moment call (event.Reply node attempt code text.now)) }
+        ensures after { OnOk result (replay_of self.new ≡ spec.call_event (replay_of self.old) self.old.reached call (event.Reply node attempt code text.now)) }
         ensures calls { OnOk result (self.new.calls ≡ self.old.calls) }
     {
         let Some(ticket) = self.ticket(call) else {
-            self.reached = moment;
             return Ok(());
         };
         let Some(id) = ticket.attempt_id(node, attempt) else {
@@ -183,28 +213,34 @@ impl Replay {
                 code,
                 text,
             };
-            self.event(script, moment, call, event);
+            self.event(script, call, event)?;
             return Ok(());
         };
         let server = server_on(script, ticket.chan, call, attempt);
         let reply = receive(&mut self.wires, server, id, code, text)?;
-        self.reached = moment;
-        deliver(&mut self.pool, reply, moment);
+        deliver(&mut self.pool, &mut self.wires, reply)?;
         Ok(())
     }
 
     /// An attempt of a call is lost: this is brought to the call by the id of the attempt alone.
-    fn lose(&mut self, script: &Script, moment: u64, call: u32, node: u32, attempt: u32, code: u32)
+    fn lose(
+        &mut self,
+        script: &Script,
+        call: u32,
+        node: u32,
+        attempt: u32,
+        code: u32,
+    ) -> Result<(), NoMemory>
         requires fits { Fits script.now }
         requires ready { IsReady script.now self.old }
         requires few { length self.old.calls.entries ≤ 500000 }
-        ensures ready { IsReady script.now self.new }
-        ensures after { replay_of self.new ≡ spec.call_event (replay_of self.old) moment call (event.Lost node attempt code) }
-        ensures calls { self.new.calls ≡ self.old.calls }
+        requires settled { AreSettled self.old.reached self.old.pool }
+        ensures ready { OnOk result (IsReady script.now self.new) }
+        ensures after { OnOk result (replay_of self.new ≡ spec.call_event (replay_of self.old) self.old.reached call (event.Lost node attempt code)) }
+        ensures calls { OnOk result (self.new.calls ≡ self.old.calls) }
     {
         let Some(ticket) = self.ticket(call) else {
-            self.reached = moment;
-            return;
+            return Ok(());
         };
         let Some(id) = ticket.attempt_id(node, attempt) else {
             // It names no attempt of the call's plan, and so no id.
@@ -213,17 +249,18 @@ impl Replay {
                 attempt,
                 code,
             };
-            self.event(script, moment, call, event);
-            return;
+            self.event(script, call, event)?;
+            return Ok(());
         };
         let server = server_on(script, ticket.chan, call, attempt);
         forget(&mut self.wires, server, id);
-        self.reached = moment;
-        lose(&mut self.pool, id, code, moment);
+        lose(&mut self.pool, &mut self.wires, id, code)?;
+        Ok(())
     }
 
     /// A join line.
     fn join(&mut self, script: &Script, call: u32, told: &mut Vec<Told>) -> Result<(), NoMemory>
+        requires fits { Fits script.now }
         requires ready { IsReady script.now self.old }
         requires few { length self.old.calls.entries ≤ 500000 }
         ensures ready { OnOk result (IsReady script.now self.new) }
@@ -239,7 +276,8 @@ impl Replay {
             told.push(Told::Gone(call))?;
             return Ok(());
         };
-        let Some((reached, tells)) = join(&mut self.pool, ticket.first, self.reached) else {
+        let joined = join(&mut self.pool, &mut self.wires, ticket.first, self.reached)?;
+        let Some((reached, tells)) = joined else {
             told.push(Told::Gone(call))?;
             return Ok(());
         };
@@ -265,7 +303,8 @@ impl Replay {
         requires act { IsAct (length script.now.chans) act.now }
         requires new { IsNew self.old.calls.entries act.now }
         ensures ready { OnOk result (IsReady script.now self.new) }
-        ensures after { OnOk result (replay_of self.new ≡ spec.after script.now (replay_of self.old) act.now) }
+        ensures after { OnOk result (settled (replay_of self.new) ≡ settled (spec.after script.now (replay_of self.old) act.now)) }
+        ensures reached { OnOk result (self.new.reached ≡ (spec.after script.now (replay_of self.old) act.now).reached) }
         ensures tells { OnOk result (told.new.items ≡ told.old.items ++ spec.tells script.now (replay_of self.old) act.now) }
         ensures calls { OnOk result (keys_of self.new.calls.entries ≡ keys_of self.old.calls.entries ++ called (act.now ∷ [])) }
         ensures kept { OnErr result (told.new.items ≡ told.old.items) }
@@ -277,13 +316,12 @@ impl Replay {
                 chan,
                 text,
             } => {
-                let moment = self.reached.max(*at);
-                self.call(alloc, script, moment, *call, *chan, text, told)
+                self.reach(script, self.reached.max(*at))?;
+                self.call(alloc, script, *call, *chan, text, told)
             }
             Act::Cancel { at, call } => {
-                let moment = self.reached.max(*at);
-                self.event(script, moment, *call, Event::Cancel);
-                Ok(())
+                self.reach(script, self.reached.max(*at))?;
+                self.event(script, *call, Event::Cancel)
             }
             Act::Reply {
                 at,
@@ -293,8 +331,8 @@ impl Replay {
                 code,
                 text,
             } => {
-                let moment = self.reached.max(*at);
-                self.reply(alloc, script, moment, *call, *node, *attempt, *code, text)
+                self.reach(script, self.reached.max(*at))?;
+                self.reply(alloc, script, *call, *node, *attempt, *code, text)
             }
             Act::Lose {
                 at,
@@ -303,28 +341,49 @@ impl Replay {
                 attempt,
                 code,
             } => {
-                let moment = self.reached.max(*at);
-                self.lose(script, moment, *call, *node, *attempt, *code);
-                Ok(())
+                self.reach(script, self.reached.max(*at))?;
+                self.lose(script, *call, *node, *attempt, *code)
             }
-            Act::Tick { at } => {
-                self.reached = self.reached.max(*at);
-                Ok(())
-            }
+            Act::Tick { at } => self.reach(script, self.reached.max(*at)),
             Act::Join { call } => self.join(script, *call, told),
         }
     }
 }
 
-/// The plain channel of this number.
-fn leaf_of(script: &Script, chan: u32) -> &LeafChan
-    requires chan { chan < length script.now.chans }
-    requires channels { All (IsChan script.now.servers) script.now.chans }
-    ensures plan { (call : ℕ) → plan script.now.chans chan call ≡ Some (leaf_plan result.now) }
-    ensures leaf { IsLeaf script.now.servers result.now }
+/// Sets the marks of a call that begins at a moment: its deadline, and its backup request.
+fn set_marks(marks: &mut Marks, first: u64, leaf: &LeafChan, moment: u64) -> Result<(), NoMemory>
+    requires timeout { IsWait leaf.now.timeout }
+    requires backup { IsWait leaf.now.backup }
+    requires early { moment < 2 ^ 60 }
+    ensures { OnOk result (marks.new ≡ with_marks first leaf.now moment marks.old) }
 {
-    let Chan::Leaf(leaf) = &script.chans.list()[chan as usize];
-    leaf
+    set_mark(marks, first, leaf.timeout, moment, 0, ERPCTIMEDOUT)?;
+    set_mark(marks, first, leaf.backup, moment, 1, EBACKUPREQUEST)?;
+    Ok(())
+}
+
+/// Sets a mark so many milliseconds ahead, where there is a wait.
+fn set_mark(
+    marks: &mut Marks,
+    first: u64,
+    wait: Option<u32>,
+    moment: u64,
+    rank: u32,
+    code: u32,
+) -> Result<(), NoMemory>
+    requires wait { IsWait wait }
+    requires early { moment < 2 ^ 60 }
+    ensures { OnOk result (marks.new ≡ with_mark first moment wait rank code marks.old) }
+{
+    let Some(wait) = wait else {
+        return Ok(());
+    };
+    marks.add(Mark {
+        moment: moment + u64::from(wait),
+        rank,
+        id: first,
+        code,
+    })
 }
 
 fn clone_bytes(alloc: Global, bytes: &Bytes) -> Result<Bytes, NoMemory>

@@ -1,17 +1,19 @@
 //! The wires of a replay: one for each server.
 
-ghost use Rattle.std.specs.Prelude.{◌≡◌, ◌+◌, ◌^◌, ◌<◌, ◌≤◌, List, false, length, IfOk, OnOk, All};
+ghost use Rattle.std.specs.Prelude.{◌≡◌, ◌+◌, ◌^◌, ◌<◌, ◌≤◌, ℕ, List, Some, false, length, IfOk, OnOk, All};
 ghost use Rattle.std.specs.List.{AllByRecursion};
 ghost use Rattle.id_pool.specs.Ranges.{Slot};
 ghost use Rattle.link_core.specs.Outstanding.{is_outstanding};
-ghost use Rattle.rpc_model.specs.Fits.{IsChan};
+ghost use Rattle.rpc_model.specs.Fits.{IsChan, IsLeaf};
+ghost use Rattle.rpc_model.specs.Plan.{leaf_plan, plan};
+ghost use Rattle.rpc_model.specs.Machine.{server_of};
 ghost use Rattle.rpc_model.specs.Marks.{Begun};
 ghost use Rattle.sim_run.specs.Desk.{IsWire};
 ghost use Rattle.sim_run.specs.Wires.{IsChangedAt, sent, received, server_on};
 
 use crate::wire::{Reply, Wire};
 use rpc_base::{Bytes, NoMemory};
-use rpc_model::{Chan, Script};
+use rpc_model::{Chan, LeafChan, Script};
 use std::alloc::Global;
 
 /// A wire for each server.
@@ -26,17 +28,36 @@ pub(crate) fn open_wires(alloc: Global, servers: u32) -> Result<Vec<Wire>, NoMem
     Ok(wires)
 }
 
-/// The server of an attempt of a call on this channel: the attempts of a call go round the channel's servers.
+/// The server of an attempt of a call: the attempts go round the channel's servers, from the one that the call's number
+/// names.
+pub(crate) fn server_of(leaf: &LeafChan, call: u32, attempt: u32) -> u32
+    requires { 1 ≤ length leaf.now.servers }
+    ensures { result ≡ server_of leaf.now call attempt }
+{
+    let servers = leaf.servers.list();
+    let at = (u64::from(call) + u64::from(attempt)) % servers.len() as u64;
+    servers[at as usize]
+}
+
+/// The server of an attempt of a call on the channel of this number.
 pub(crate) fn server_on(script: &Script, chan: u32, call: u32, attempt: u32) -> u32
     requires chan { chan < length script.now.chans }
     requires channels { All (IsChan script.now.servers) script.now.chans }
     ensures value { result ≡ server_on script.now.chans chan call attempt }
     ensures bound { result < script.now.servers }
 {
+    server_of(leaf_of(script, chan), call, attempt)
+}
+
+/// The plain channel of this number.
+pub(crate) fn leaf_of(script: &Script, chan: u32) -> &LeafChan
+    requires chan { chan < length script.now.chans }
+    requires channels { All (IsChan script.now.servers) script.now.chans }
+    ensures plan { (call : ℕ) → plan script.now.chans chan call ≡ Some (leaf_plan result.now) }
+    ensures leaf { IsLeaf script.now.servers result.now }
+{
     let Chan::Leaf(leaf) = &script.chans.list()[chan as usize];
-    let servers = leaf.servers.list();
-    let at = (u64::from(call) + u64::from(attempt)) % servers.len() as u64;
-    servers[at as usize]
+    leaf
 }
 
 /// Sends a request to a server.

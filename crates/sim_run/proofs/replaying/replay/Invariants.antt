@@ -1,9 +1,10 @@
--- What was told so far goes on to what the script tells, the moments stay low, and every call's number is new.
+-- The plain machine's own replay goes along: it differs in marks alone that calls have taken early. What was told so far goes on to what the script tells, the moments stay low, and every call's number is new.
 use Rattle.std.proofs.Common.{◌≡◌, ◌+◌, ◌*◌, ◌^◌, ◌≤◌, nat_eq, ◌++◌, length, drop}
 use Rattle.std.specs.List.{IsDistinct}
 use Rattle.std.specs.Map.{keys_of}
 use Rattle.rpc_model.specs.Fits.{called}
-use Rattle.rpc_model.specs.Told.{told, told_from}
+use Rattle.rpc_model.specs.Told.{Replay, told, told_from}
+use Rattle.rpc_model.specs.Early.{settled, AreSparse}
 use Rattle.rpc_model.specs.Moments.{IsBy}
 use Rattle.sim_run.specs.Desk.{IsReady, replay_of}
 use Rattle.sim_run.proofs.replaying.replay.Given as goal
@@ -11,9 +12,12 @@ use Rattle.sim_run.proofs.replaying.replay.Given as goal
 abbrev pub invariant-loop-act : goal.invariant-loop-act
 invariant-loop-act l = record {
   ready : IsReady l.script l.replay;
-  said : l.told.items ++ told_from l.script (replay_of l.replay) (drop l.act-index l.acts) ≡ l.fn.told.items ++ told l.script;
+  machine : Replay;
+  alike : settled (replay_of l.replay) ≡ settled machine;
+  sparse : AreSparse machine;
+  said : l.told.items ++ told_from l.script machine (drop l.act-index l.acts) ≡ l.fn.told.items ++ told l.script;
   long : length l.fn.told.items ≤ length l.told.items;
-  early : IsBy (2 ^ 53 + l.act-index * 2 ^ 31) (replay_of l.replay);
+  early : IsBy (2 ^ 53 + l.act-index * 2 ^ 31) machine;
   numbers : IsDistinct nat_eq (keys_of l.replay.calls.entries ++ called (drop l.act-index l.acts));
   few : length (keys_of l.replay.calls.entries) ≤ l.act-index;
   acts : l.acts ≡ l.script.acts;

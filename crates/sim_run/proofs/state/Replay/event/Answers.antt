@@ -1,20 +1,22 @@
 -- The event comes to the call that its first id finds.
+use Rattle.std.proofs.Common.{sym, refl}
 use Rattle.rpc_model.specs.Told as spec
-use Rattle.sim_run.proofs.Ready.{ready-follows, event-replay, own-event, no-event}
+use Rattle.sim_run.proofs.Ready.{ready-brings, event-replay, own-event, own-may, no-event, some_ticket}
 use Rattle.sim_run.proofs.state.Replay.event.Goals as goal
-use Rattle.sim_run.proofs.state.Replay.event.Goals.{in-Reply-1, in-Lost-1}
-use Rattle.std.proofs.Common.{refl}
 
-pub returns-in-Some-clause-ready : goal.returns-in-Some-clause-ready
-returns-in-Some-clause-ready c =
-    let f = own-event c.args.script.now c.args.self.now c.bring.new.pool c.args.call c.in-Some.ticket c.args.event c.args.moment c.requires.ready c.requires.few c.in-Some.ensures c.bring.ensures in
-    ready-follows c.args.script.now c.args.self.now (record { reached = c.args.moment; calls = c.args.self.now.calls; pool = c.bring.new.pool; wires = c.args.self.now.wires }) c.args.call (spec.event_after c.args.event c.args.moment) c.requires.ready f refl c.requires.ready.servers c.requires.ready.waiting
+pub returns-in_default-clause-after : goal.returns-in_default-clause-after
+returns-in_default-clause-after c =
+    event-replay c.args.self.now c.args.self.now c.args.call c.args.event (no-event c.args.script.now c.args.self.now c.args.call c.args.event c.args.self.now.reached c.requires.ready c.in_default.ensures) refl refl
 
-pub returns-in-Some-clause-after : goal.returns-in-Some-clause-after
-returns-in-Some-clause-after c =
-    let f = own-event c.args.script.now c.args.self.now c.bring.new.pool c.args.call c.in-Some.ticket c.args.event c.args.moment c.requires.ready c.requires.few c.in-Some.ensures c.bring.ensures in
-    event-replay c.args.self.now (record { reached = c.args.moment; calls = c.args.self.now.calls; pool = c.bring.new.pool; wires = c.args.self.now.wires }) c.args.call c.args.event c.args.moment f refl refl
+pub bring-requires : goal.bring-requires
+bring-requires c = own-may c.args.script.now c.args.self.now c.args.call c.in-Some.ticket c.requires.ready c.requires.few c.requires.fits.few_slots (some_ticket _ c.in-Some.ticket (sym c.in-Some.ensures))
 
-pub returns-in-None-clause-after : goal.returns-in-None-clause-after
-returns-in-None-clause-after c =
-    event-replay c.args.self.now (record { reached = c.args.moment; calls = c.args.self.now.calls; pool = c.args.self.now.pool; wires = c.args.self.now.wires }) c.args.call c.args.event c.args.moment (no-event c.args.script.now c.args.self.now c.args.call c.args.event c.args.moment c.requires.ready c.in-None.ensures) refl refl
+pub returns-clause-ready : goal.returns-clause-ready
+returns-clause-ready c =
+    let b = own-event c.args.script.now c.args.self.now c.bring.new.pool c.bring.new.wires.items c.args.call c.in-Some.ticket c.args.event c.requires.ready c.requires.few c.requires.settled c.in-Some.ensures c.in_ok-bring.ensures.after c.in_ok-bring.ensures.wires in
+    ready-brings c.args.script.now c.args.self.now (record { reached = c.args.self.now.reached; calls = c.args.self.now.calls; pool = c.bring.new.pool; wires = c.bring.new.wires; marks = c.args.self.now.marks }) c.args.call (spec.event_after c.args.event c.args.self.now.reached) c.requires.ready b refl c.requires.ready.marks
+
+pub returns-clause-after : goal.returns-clause-after
+returns-clause-after c =
+    let b = own-event c.args.script.now c.args.self.now c.bring.new.pool c.bring.new.wires.items c.args.call c.in-Some.ticket c.args.event c.requires.ready c.requires.few c.requires.settled c.in-Some.ensures c.in_ok-bring.ensures.after c.in_ok-bring.ensures.wires in
+    event-replay c.args.self.now (record { reached = c.args.self.now.reached; calls = c.args.self.now.calls; pool = c.bring.new.pool; wires = c.bring.new.wires; marks = c.args.self.now.marks }) c.args.call c.args.event b.follows refl refl

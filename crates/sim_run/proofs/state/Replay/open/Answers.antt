@@ -1,13 +1,14 @@
 -- Nothing has happened yet.
 use Rattle.std.proofs.Common.{◌∙◌, ap, length}
-use Rattle.sim_run.proofs.Ready.{opened-sound, opened-length}
+use Rattle.sim_run.proofs.Ready.{opened-sound, opened-length, opened-wired, opened-marked}
 use Rattle.sim_run.proofs.state.Replay.open.Goals as goal
 
 pub returns-clause-ready : goal.returns-clause-ready
 returns-clause-ready c = record {
   sound = rw c.in_ok-open.ensures (opened-sound c.args.script.now.slots c.new.result.entries c.new.ensures.empty);
   pool = ap length c.in_ok-open.ensures ∙ opened-length c.args.script.now.slots;
-  servers = c.in_ok-open_wires.ensures.count;
-  waiting = c.in_ok-open_wires.ensures.idle c.in_ok-open.field-0;
+  wired = opened-wired c.args.script.now.servers c.args.script.now.slots c.in_ok-open.field-0 c.in_ok-open_wires.field-0.items c.in_ok-open.ensures c.in_ok-open_wires.ensures.count (c.in_ok-open_wires.ensures.idle c.in_ok-open.field-0);
   channels = rw c.new.ensures.empty tt;
+  marked = opened-marked c.args.script.now.slots c.in_ok-open.field-0 c.open-2.result c.in_ok-open.ensures;
+  marks = rw c.open-2.ensures tt;
 }
