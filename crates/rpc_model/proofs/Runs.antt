@@ -1,5 +1,6 @@
 -- What a step of the plain machine keeps, and so every run of it.
-use Rattle.std.proofs.Common.{◌≡◌, ℕ, ◌+◌, ◌≤◌, ◌⊎◌, inl, inr, Bool, true, false, cond, ◌&&◌, ◌==◌, not, nat_le, nat_lt, List, [], ◌∷◌, ◌++◌, length, fold, Some, None, is_none, arith, refl, length-append}
+use Rattle.std.proofs.Common.{◌≡◌, ℕ, suc, ◌+◌, ◌≤◌, ◌⊎◌, inl, inr, Bool, true, false, cond, ◌&&◌, ◌==◌, not, nat_le, nat_lt, List, [], ◌∷◌, ◌++◌, fold, Some, None, is_none, arith, refl, ap, sym, ◌∙◌}
+use Rattle.std.proofs.lemmas.Bool.Decides.{nat_tests}
 use Rattle.std.proofs.lemmas.List.{append-nil}
 use Rattle.std.proofs.lemmas.List.Sums.{fold-append}
 use Rattle.rpc_model.specs.declared.chan.LeafChan.{LeafChan}
@@ -9,6 +10,7 @@ use Rattle.rpc_model.specs.declared.event.Event.{Event}
 use Rattle.rpc_model.specs.declared.event.Event.TheVariants.{Reply, Lost, Backup, Deadline, Cancel}
 use Rattle.rpc_model.specs.declared.codes.TheConstants.{ECANCELED}
 use Rattle.rpc_model.specs.Codes.{retriable}
+use Rattle.rpc_model.specs.Laws.{first_sends}
 use Rattle.rpc_model.specs.Leaf.{Leaf, leaf_step, is_live, is_attempt, may_issue, failed, answered, ended, retried, backed}
 use Rattle.rpc_model.specs.Plan.{Plan, leaf_plan}
 use Rattle.rpc_model.specs.Machine.{State, leaf_state, Run, Send, end_of, attempts, is_at, leaf_run, quiet, server_of, sent, step_at, step, and_then, start, machine}
@@ -86,18 +88,21 @@ leaf_step-issues retry leaf (Deadline node) =
 leaf_step-issues retry leaf Cancel = inl refl
 
 -- What holds of a leaf's run: few attempts, each sent.
-pub record LeafRuns (retry : ℕ) (state : State) (sends : List Send) : Type 0 where
+pub record LeafRuns (leaf : LeafChan) (call : ℕ) (request : List ℕ) (state : State) (sends : List Send) : Type 0 where
   pub some : 1 ≤ attempts state
-  pub few : attempts state ≤ 1 + retry
-  pub sent : length sends ≡ attempts state
+  pub few : attempts state ≤ 1 + leaf.retry
+  pub sent : sends ≡ first_sends leaf call request (attempts state)
 
-sent-length : (leaf : LeafChan) (call node : ℕ) (request : List ℕ) (before now : ℕ) → (now ≡ before) ⊎ (now ≡ before + 1) → before + length (sent leaf call node request before now) ≡ now
-sent-length leaf call node request before now same =
-    let one : Send = record { node = node; attempt = before; server = server_of leaf call before; payload = request } in
-    elim (nat_lt before now) as (λ b. nat_lt before now ≡ b → before + length (cond b (one ∷ []) []) ≡ now) [
-      | true ↦ λ more. grind arith
-      | false ↦ λ none. grind arith
-    ] refl
+sent-more : (leaf : LeafChan) (call : ℕ) (request : List ℕ) (before now : ℕ) → (now ≡ before) ⊎ (now ≡ before + 1) → first_sends leaf call request before ++ sent leaf call 0 request before now ≡ first_sends leaf call request now
+sent-more leaf call request before now (inl same) =
+    let none : nat_lt before now ≡ false = grind (arith, nat_tests) in
+    let one : Send = record { node = 0; attempt = before; server = server_of leaf call before; payload = request } in
+    ap (λ v. first_sends leaf call request before ++ cond v (one ∷ []) []) none ∙ append-nil (first_sends leaf call request before) ∙ ap (first_sends leaf call request) (sym same)
+sent-more leaf call request before now (inr more) =
+    let some : nat_lt before now ≡ true = grind (arith, nat_tests) in
+    let one : Send = record { node = 0; attempt = before; server = server_of leaf call before; payload = request } in
+    let next : suc before ≡ now = omega (arith, more) in
+    ap (λ v. first_sends leaf call request before ++ cond v (one ∷ []) []) some ∙ ap (first_sends leaf call request) next
 
 pub few-issues : (retry : ℕ) (before now : Leaf) → IssuesFew retry before now → (now.issued ≡ before.issued) ⊎ (now.issued ≡ before.issued + 1)
 few-issues retry before now (inl same) = inl same
@@ -107,36 +112,35 @@ pub few-bound : (retry : ℕ) (before now : Leaf) → IssuesFew retry before now
 few-bound retry before now (inl same) some few = (omega (arith, same), omega (arith, same))
 few-bound retry before now (inr more) some few = (omega (arith, more.0), omega (arith, more.0, more.1))
 
-leaf_run-keeps : (leaf : LeafChan) (call node : ℕ) (request : List ℕ) (before now : Leaf) (sends : List Send) → IssuesFew leaf.retry before now → LeafRuns leaf.retry (leaf_state before) sends
-    → LeafRuns leaf.retry (leaf_state now) (sends ++ (leaf_run leaf call node request before now).sends)
-leaf_run-keeps leaf call node request before now sends issues h =
+leaf_run-keeps : (leaf : LeafChan) (call : ℕ) (request : List ℕ) (before now : Leaf) (sends : List Send) → IssuesFew leaf.retry before now → LeafRuns leaf call request (leaf_state before) sends
+    → LeafRuns leaf call request (leaf_state now) (sends ++ (leaf_run leaf call 0 request before now).sends)
+leaf_run-keeps leaf call request before now sends issues h =
     let bound = few-bound leaf.retry before now issues h.some h.few in
-    let more = sent-length leaf call node request before.issued now.issued (few-issues leaf.retry before now issues) in
-    let so_far : length sends ≡ before.issued = h.sent in
+    let more = sent-more leaf call request before.issued now.issued (few-issues leaf.retry before now issues) in
     record {
       some = bound.0;
       few = bound.1;
-      sent = rw length-append (omega (arith, more, so_far));
+      sent = ap (λ ss. ss ++ sent leaf call 0 request before.issued now.issued) h.sent ∙ more;
     }
 
-quiet-keeps : (retry : ℕ) (state : State) (sends : List Send) → LeafRuns retry state sends → LeafRuns retry state (sends ++ [])
-quiet-keeps retry state sends h = rw append-nil h
+quiet-keeps : (leaf : LeafChan) (call : ℕ) (request : List ℕ) (state : State) (sends : List Send) → LeafRuns leaf call request state sends → LeafRuns leaf call request state (sends ++ [])
+quiet-keeps leaf call request state sends h = rw append-nil h
 
-step_at-keeps : (leaf : LeafChan) (call : ℕ) (request : List ℕ) (before : Leaf) (sends : List Send) (e : Event) (moment : ℕ) → LeafRuns leaf.retry (leaf_state before) sends
-    → LeafRuns leaf.retry (step_at 0 (leaf_plan leaf) call request (leaf_state before) e moment).state (sends ++ (step_at 0 (leaf_plan leaf) call request (leaf_state before) e moment).sends)
+step_at-keeps : (leaf : LeafChan) (call : ℕ) (request : List ℕ) (before : Leaf) (sends : List Send) (e : Event) (moment : ℕ) → LeafRuns leaf call request (leaf_state before) sends
+    → LeafRuns leaf call request (step_at 0 (leaf_plan leaf) call request (leaf_state before) e moment).state (sends ++ (step_at 0 (leaf_plan leaf) call request (leaf_state before) e moment).sends)
 step_at-keeps leaf call request before sends e moment h =
     let after : Bool → Run = λ b. cond b (leaf_run leaf call 0 request before (leaf_step leaf.retry before e)) (quiet (leaf_state before)) in
-    elim (is_at 0 e) as (λ b. LeafRuns leaf.retry (after b).state (sends ++ (after b).sends)) [
-      | true ↦ leaf_run-keeps leaf call 0 request before (leaf_step leaf.retry before e) sends (leaf_step-issues leaf.retry before e) h
-      | false ↦ quiet-keeps leaf.retry (leaf_state before) sends h
+    elim (is_at 0 e) as (λ b. LeafRuns leaf call request (after b).state (sends ++ (after b).sends)) [
+      | true ↦ leaf_run-keeps leaf call request before (leaf_step leaf.retry before e) sends (leaf_step-issues leaf.retry before e) h
+      | false ↦ quiet-keeps leaf call request (leaf_state before) sends h
     ]
 
 cancelled-issued : (leaf : Leaf) (b : Bool) → (cond b (ended leaf (Bad ECANCELED)) leaf).issued ≡ leaf.issued
 cancelled-issued leaf true = refl
 cancelled-issued leaf false = refl
 
-step-keeps : (leaf : LeafChan) (call : ℕ) (request : List ℕ) (state : State) (sends : List Send) (e : Event) (moment : ℕ) → LeafRuns leaf.retry state sends
-    → LeafRuns leaf.retry (step (leaf_plan leaf) call request state e moment).state (sends ++ (step (leaf_plan leaf) call request state e moment).sends)
+step-keeps : (leaf : LeafChan) (call : ℕ) (request : List ℕ) (state : State) (sends : List Send) (e : Event) (moment : ℕ) → LeafRuns leaf call request state sends
+    → LeafRuns leaf call request (step (leaf_plan leaf) call request state e moment).state (sends ++ (step (leaf_plan leaf) call request state e moment).sends)
 step-keeps leaf call request (leaf_state before) sends Cancel moment h =
     let same = cancelled-issued before (is_none before.end) in
     record { some = rw same h.some; few = rw same h.few; sent = rw (same, append-nil) h.sent }
@@ -145,12 +149,12 @@ step-keeps leaf call request (leaf_state before) sends (Lost node attempt code) 
 step-keeps leaf call request (leaf_state before) sends (Backup node) moment h = step_at-keeps leaf call request before sends (Backup node) moment h
 step-keeps leaf call request (leaf_state before) sends (Deadline node) moment h = step_at-keeps leaf call request before sends (Deadline node) moment h
 
-run-keeps : (leaf : LeafChan) (call : ℕ) (request : List ℕ) (run : Run) (events : List (Event × ℕ)) → LeafRuns leaf.retry run.state run.sends
-    → LeafRuns leaf.retry (fold (one_more (leaf_plan leaf) call request) run events).state (fold (one_more (leaf_plan leaf) call request) run events).sends
+run-keeps : (leaf : LeafChan) (call : ℕ) (request : List ℕ) (run : Run) (events : List (Event × ℕ)) → LeafRuns leaf call request run.state run.sends
+    → LeafRuns leaf call request (fold (one_more (leaf_plan leaf) call request) run events).state (fold (one_more (leaf_plan leaf) call request) run events).sends
 run-keeps leaf call request run [] h = h
 run-keeps leaf call request run (e ∷ events) h =
     run-keeps leaf call request (one_more (leaf_plan leaf) call request run e) events (step-keeps leaf call request run.state run.sends e.0 e.1 h)
 
 pub machine-runs : (leaf : LeafChan) (call : ℕ) (request : List ℕ) (begun : ℕ) (events : List (Event × ℕ))
-    → LeafRuns leaf.retry (machine (leaf_plan leaf) call request begun events).state (machine (leaf_plan leaf) call request begun events).sends
+    → LeafRuns leaf call request (machine (leaf_plan leaf) call request begun events).state (machine (leaf_plan leaf) call request begun events).sends
 machine-runs leaf call request begun events = run-keeps leaf call request (start (leaf_plan leaf) call request begun) events (record { some = omega arith; few = omega arith; sent = refl })

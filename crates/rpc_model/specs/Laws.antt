@@ -1,5 +1,5 @@
 -- What holds of every run of the plain machine.
-use Rattle.std.specs.Prelude.{◌≡◌, ℕ, ◌+◌, ◌<◌, ◌≤◌, Bool, true, false, ◌==◌, fold, List, ◌++◌, length, count_by, None, Some}
+use Rattle.std.specs.Prelude.{◌≡◌, ℕ, zero, suc, ◌+◌, ◌<◌, ◌≤◌, Bool, true, false, ◌==◌, fold, List, [], ◌∷◌, ◌++◌, count_by, None, Some}
 use Rattle.rpc_model.specs.declared.chan.LeafChan.{LeafChan}
 use Rattle.rpc_model.specs.declared.event.End.{End}
 use Rattle.rpc_model.specs.declared.event.End.TheVariants.{Good}
@@ -10,7 +10,7 @@ use Rattle.rpc_model.specs.declared.script.Script.{Script}
 use Rattle.rpc_model.specs.declared.told.Told.{Told}
 use Rattle.rpc_model.specs.declared.told.Told.TheVariants.{Ended, Unended, Full, Gone}
 use Rattle.rpc_model.specs.Plan.{Plan, leaf_plan}
-use Rattle.rpc_model.specs.Machine.{end_of, attempts, machine}
+use Rattle.rpc_model.specs.Machine.{Send, end_of, attempts, server_of, machine}
 use Rattle.rpc_model.specs.Told.{told}
 
 -- An end never changes: whatever comes after it, the call keeps it.
@@ -28,10 +28,15 @@ abbrev pub OneAttempt : Type 0
 OneAttempt = (leaf : LeafChan) (call : ℕ) (request : List ℕ) (begun : ℕ) (events : List (Event × ℕ))
     → leaf.retry ≡ 0 → attempts (machine (leaf_plan leaf) call request begun events).state ≡ 1
 
--- The sends of a leaf are as many as its attempts.
+-- the requests of so many attempts of a leaf, each to its own server
+abbrev pub first_sends : LeafChan → ℕ → List ℕ → ℕ → List Send
+first_sends leaf call request zero = []
+first_sends leaf call request (suc count) = first_sends leaf call request count ++ record { node = 0; attempt = count; server = server_of leaf call count; payload = request } ∷ []
+
+-- A leaf sends each attempt that it issues once, in their order.
 abbrev pub SendsAreAttempts : Type 0
 SendsAreAttempts = (leaf : LeafChan) (call : ℕ) (request : List ℕ) (begun : ℕ) (events : List (Event × ℕ))
-    → length (machine (leaf_plan leaf) call request begun events).sends ≡ attempts (machine (leaf_plan leaf) call request begun events).state
+    → let run = machine (leaf_plan leaf) call request begun events in run.sends ≡ first_sends leaf call request (attempts run.state)
 
 -- An attempt that was issued and replaced does nothing any more, whatever comes later: neither its reply nor its loss.
 abbrev pub ReplacedAttemptsDoNothing : Type 0

@@ -18,7 +18,8 @@ pub fn one_attempt()
     ensures { OneAttempt }
 {}
 
-/// A plain channel's call sends as many requests as it issues attempts.
+/// A plain channel's call sends each attempt that it issues once, in their order: attempt k with the request to the server
+/// number (call + k), counted round.
 pub fn sends_are_attempts()
     ensures { SendsAreAttempts }
 {}

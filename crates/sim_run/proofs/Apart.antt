@@ -66,6 +66,13 @@ aside-slot range (Vacant n) (Vacant m) some next of aside = absurd next
 aside-slot range (Vacant n) Retired some next of aside = absurd next
 aside-slot range Retired t some next of aside = absurd of
 
+-- A slot that is looked up is one slot, and a range one range.
+pub same-slot : (x y : Slot Begun) → Some x ≡ Some y → x ≡ y
+same-slot x y e = cc
+
+pub same-range : (x y : Range Begun) → Taken x ≡ Taken y → x ≡ y
+same-range x y e = cc
+
 pub same_or : (i j : ℕ) → (i ≡ j) ⊎ (i ≢ j)
 same_or i j = elim (cases_lt i j) [
   | inl l ↦ inr (λ e. omega (arith, l, e))

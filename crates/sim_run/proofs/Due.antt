@@ -5,20 +5,18 @@ use Rattle.std.specs.List.{AllByRecursion}
 use Rattle.rpc_model.specs.Machine.{Mark}
 use Rattle.rpc_model.specs.Marks.{Begun, take_mark, least_mark, lesser, is_before, weave_at_most, weave, most_marks}
 use Rattle.rpc_model.proofs.Early.{taken-waits, least-length, weave-idle, weave-meets}
+use Rattle.sim_run.proofs.Later.{same-pair}
 use Rattle.sim_run.proofs.Begins.{All-weaken}
 
 -- no mark of these is due
 abbrev pub AreLate : ℕ → List Mark → Type 0
 AreLate moment marks = AllByRecursion (λ w. moment < w.moment) marks
 
-same-first : (p q : Mark × List Mark) → Some p ≡ Some q → p.0 ≡ q.0
-same-first p q e = let same : p ≡ q = cc in ap (λ (x : Mark × List Mark). x.0) same
-
 -- The first mark is due no later than any.
 lesser-first : (x : Mark) (xs : List Mark) (o : Option (Mark × List Mark)) (mark : Mark) (others : List Mark) → (o ≡ None → xs ≡ []) → ((m : Mark) (ms : List Mark) → o ≡ Some (m, ms) → AllByRecursion (λ w. m.moment ≤ w.moment) xs) → lesser x xs o ≡ Some (mark, others)
     → AllByRecursion (λ w. mark.moment ≤ w.moment) (x ∷ xs)
 lesser-first x xs None mark others none some e =
-    let same = same-first (x, xs) (mark, others) e in
+    let same = (same-pair (x, xs) (mark, others) e).0 in
     let head : mark.moment ≤ x.moment = (let m = ap (λ (w : Mark). w.moment) same in omega (arith, m)) in
     (head, subst (AllByRecursion (λ w. mark.moment ≤ w.moment)) (sym (none refl)) tt)
 lesser-first x xs (Some (least, ms)) mark others none some e = by (is_before least x) refl e
@@ -28,11 +26,11 @@ lesser-first x xs (Some (least, ms)) mark others none some e = by (is_before lea
 
     by : (v : Bool) → is_before least x ≡ v → cond {A = Option (Mark × List Mark)} v (Some (least, x ∷ ms)) (Some (x, xs)) ≡ Some (mark, others) → AllByRecursion (λ w. mark.moment ≤ w.moment) (x ∷ xs)
     by true before e =
-        let same = same-first (least, x ∷ ms) (mark, others) e in
+        let same = (same-pair (least, x ∷ ms) (mark, others) e).0 in
         let le : least.moment ≤ x.moment = grind (arith, nat_tests) in
         subst (λ (m : Mark). AllByRecursion (λ w. m.moment ≤ w.moment) (x ∷ xs)) same (le, all)
     by false before e =
-        let same = same-first (x, xs) (mark, others) e in
+        let same = (same-pair (x, xs) (mark, others) e).0 in
         let le : x.moment ≤ least.moment = grind (arith, nat_tests) in
         subst (λ (m : Mark). AllByRecursion (λ w. m.moment ≤ w.moment) (x ∷ xs)) same (omega arith, All-weaken (λ w. least.moment ≤ w.moment) (λ w. x.moment ≤ w.moment) xs (λ w h. omega (arith, le, h)) all)
 
@@ -85,12 +83,12 @@ nothing-if-late n moment b mark others e late =
     let test : nat_le mark.moment moment ≡ false = grind (arith, nat_tests) in weave-meets n moment b mark others e ∙ ap (λ v. cond v (weave_at_most n moment (take_mark b mark others)) b) test
 
 lesser-is : (P : Mark → Type 0) (x : Mark) (xs : List Mark) (o : Option (Mark × List Mark)) (mark : Mark) (others : List Mark) → P x → ((m : Mark) (ms : List Mark) → o ≡ Some (m, ms) → P m) → lesser x xs o ≡ Some (mark, others) → P mark
-lesser-is P x xs None mark others px some e = subst P (same-first (x, xs) (mark, others) e) px
+lesser-is P x xs None mark others px some e = subst P ((same-pair (x, xs) (mark, others) e).0) px
 lesser-is P x xs (Some (least, ms)) mark others px some e = by (is_before least x) e
   where
     by : (v : Bool) → cond {A = Option (Mark × List Mark)} v (Some (least, x ∷ ms)) (Some (x, xs)) ≡ Some (mark, others) → P mark
-    by true e = subst P (same-first (least, x ∷ ms) (mark, others) e) (some least ms refl)
-    by false e = subst P (same-first (x, xs) (mark, others) e) px
+    by true e = subst P ((same-pair (least, x ∷ ms) (mark, others) e).0) (some least ms refl)
+    by false e = subst P ((same-pair (x, xs) (mark, others) e).0) px
 
 least-is : (P : Mark → Type 0) (xs : List Mark) (mark : Mark) (others : List Mark) → AllByRecursion P xs → least_mark xs ≡ Some (mark, others) → P mark
 least-is P [] mark others all e = absurd (cc)

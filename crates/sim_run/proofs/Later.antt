@@ -111,7 +111,7 @@ apply-moment b (event.Deadline node) m n = ap (λ r. record b { state = r.state;
 
 -- ---- one mark
 
-same-pair : (p q : Mark × List Mark) → Some p ≡ Some q → (p.0 ≡ q.0) × (p.1 ≡ q.1)
+pub same-pair : (p q : Mark × List Mark) → Some p ≡ Some q → (p.0 ≡ q.0) × (p.1 ≡ q.1)
 same-pair p q e = let same : p ≡ q = cc in (ap (λ (x : Mark × List Mark). x.0) same, ap (λ (x : Mark × List Mark). x.1) same)
 
 lesser-among : (x : Mark) (xs : List Mark) (o : Option (Mark × List Mark)) (mark : Mark) (others : List Mark) → ((m : Mark) (ms : List Mark) → o ≡ Some (m, ms) → (n : Mark) → IsAmong n ms → IsAmong n xs) → lesser x xs o ≡ Some (mark, others)

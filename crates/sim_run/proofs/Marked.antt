@@ -18,7 +18,7 @@ use Rattle.sim_run.specs.Marked.{HasMark, AreMarked, IsFirstId, AreFirstIds, Are
 use Rattle.sim_run.proofs.Later.{IsLater, among-all, all-among}
 use Rattle.sim_run.proofs.Due.{weave-nothing}
 use Rattle.sim_run.proofs.Changes.{slice_get-change}
-use Rattle.sim_run.proofs.Apart.{same_or, slice_get-other}
+use Rattle.sim_run.proofs.Apart.{same-slot, same-range, same_or, slice_get-other}
 use Rattle.sim_run.proofs.Begins.{All-weaken}
 use Rattle.sim_run.proofs.Wired.{IsLeft}
 
@@ -75,9 +75,6 @@ marked-settled moment marks slots marked none slot r at =
     weave-nothing moment r.value (All-weaken (λ (w : Waits). HasMark (make_id slot r.first) w.moment marks) (λ (w : Waits). moment < w.moment) r.value.waiting (λ w h. has-late moment (make_id slot r.first) w.moment marks none h) (marked slot r at))
 
 -- ---- one call's step
-
-same-slot : (x y : Slot Begun) → Some x ≡ Some y → x ≡ y
-same-slot x y e = cc
 
 left-marked : (marks : List Mark) (i : ℕ) (r : Range Begun) (c : Begun) (t : Slot Begun) → IsLater r.value c → IsLeft r c t → AllByRecursion (λ (w : Waits). HasMark (make_id i r.first) w.moment marks) r.value.waiting
     → (s : Range Begun) → t ≡ Taken s → AllByRecursion (λ (w : Waits). HasMark (make_id i s.first) w.moment marks) s.value.waiting
@@ -154,9 +151,6 @@ marked-begin slots i next width call moment leaf text marks marked at j s e =
           (λ w h. with_mark-keeps first moment 1 EBACKUPREQUEST (make_id j s.first) w.moment leaf.backup (with_mark first moment leaf.timeout 0 ERPCTIMEDOUT marks) (with_mark-keeps first moment 0 ERPCTIMEDOUT (make_id j s.first) w.moment leaf.timeout marks h))
           (marked j s (sym (slice_get-other i j g slots other) ∙ e))
     ]
-  where
-    same-range : (x y : Range Begun) → Taken x ≡ Taken y → x ≡ y
-    same-range x y e = cc
 
 -- ---- first ids
 

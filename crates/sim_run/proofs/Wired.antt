@@ -15,7 +15,7 @@ use Rattle.sim_run.specs.Sends.{server_in, AreServers, posted, issue, MayIssue, 
 use Rattle.sim_run.specs.Desk.{IsRange, IsServed, IsPastIn, IsPast, IsWire, IsWired}
 use Rattle.sim_run.proofs.Later.{IsLater}
 use Rattle.sim_run.proofs.Changes.{slice_get-change}
-use Rattle.sim_run.proofs.Apart.{IsNext, same_or, slice_get-other, past-change}
+use Rattle.sim_run.proofs.Apart.{IsNext, same-slot, same-range, same_or, slice_get-other, past-change}
 use Rattle.sim_run.proofs.Entries.{All-change, slot-of-all}
 use Rattle.sim_run.proofs.Begins.{All-weaken}
 use Rattle.sim_run.proofs.Steps.{range-wide}
@@ -120,9 +120,6 @@ left-sent slots wires i r c sent' at later servers k less = elim (cases_lt k (at
       subst (λ j. WasSent (server_in c.plan c.call j) (make_id i r.first + (j + 1)) c.request (issue (make_id i r.first) r.value c wires)) is out
 ]
 
-same-slot : (x y : Slot Begun) → Some x ≡ Some y → x ≡ y
-same-slot x y e = cc
-
 sent-in : (slots : List (Slot Begun)) (wires : List Link) (i : ℕ) (r : Range Begun) (c : Begun) (t : Slot Begun) → AreSent slots wires → slice_get slots i ≡ Some (Taken r) → IsLater r.value c → AreServers (length wires) r.value.plan → IsLeft r c t
     → (s : Range Begun) → t ≡ Taken s → (k : ℕ) → k < attempts s.value.state → WasSent (server_in s.value.plan s.value.call k) (make_id i s.first + (k + 1)) s.value.request (issue (make_id i r.first) r.value c wires)
 sent-in slots wires i r c (Vacant next) sent' at later servers left s is k less = absurd (cc)
@@ -207,6 +204,3 @@ wired-begin servers slots wires new i next width b wired at low one served out =
             posted-keeps (server_in s.value.plan s.value.call k) (make_id j s.first + (k + 1)) s.value.request first b 0 1 wires (wired.sent j s there k less)
       ];
     })
-  where
-    same-range : (x y : Range Begun) → Taken x ≡ Taken y → x ≡ y
-    same-range x y e = cc
