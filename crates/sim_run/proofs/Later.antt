@@ -13,8 +13,8 @@ use Rattle.rpc_model.specs.Marks.{Begun, apply, take_mark, mark_event, least_mar
 use Rattle.rpc_model.proofs.MomentsStay.{step-sets}
 use Rattle.rpc_model.proofs.Runs.{IssuesFew, leaf_step-issues}
 use Rattle.rpc_model.proofs.Early.{least-length}
-use Rattle.sim_run.specs.declared.open_call.Turn.{Turn}
-use Rattle.sim_run.specs.declared.open_call.Turn.TheVariants as turn
+use Rattle.sim_run.specs.declared.turn.Turn.{Turn}
+use Rattle.sim_run.specs.declared.turn.Turn.TheVariants as turn
 use Rattle.sim_run.specs.Link.{Link}
 use Rattle.sim_run.specs.Sends.{IsAmong, AreServers, MayIssue, MayIssueFrom, FoundMayIssue}
 use Rattle.sim_run.specs.Slots.{turned, finished}

@@ -16,7 +16,7 @@ use Rattle.timer_core.specs.declared.mark.Mark.{Mark}
 use Rattle.timer_core.specs.Marks.{due_mark, rest_after}
 use Rattle.sim_run.specs.declared.ticket.Ticket.{Ticket}
 use Rattle.sim_run.specs.declared.state.Replay.{Replay}
-use Rattle.sim_run.specs.declared.open_call.Turn.TheVariants as turn
+use Rattle.sim_run.specs.declared.turn.Turn.TheVariants as turn
 use Rattle.sim_run.specs.Link.{Link}
 use Rattle.sim_run.specs.Slots.{visit, visit_by, visited, turned}
 use Rattle.sim_run.specs.Sends.{IsAmong, issue_by, LookMayIssue}

@@ -12,7 +12,7 @@ use Rattle.sim_run.specs.declared.ticket.Ticket.{Ticket}
 use Rattle.sim_run.specs.declared.state.Replay.{Replay}
 use Rattle.timer_core.specs.declared.mark.Mark.{Mark}
 use Rattle.sim_run.specs.Link.{Link}
-use Rattle.sim_run.specs.declared.open_call.Turn.TheVariants as turn
+use Rattle.sim_run.specs.declared.turn.Turn.TheVariants as turn
 use Rattle.sim_run.specs.Slots.{visit, turned}
 use Rattle.sim_run.specs.Sends.{issue_by, LookMayIssue}
 use Rattle.sim_run.specs.Marked.{AreMarked, AreFirstIds, AreSettled}

@@ -13,7 +13,7 @@ use Rattle.id_pool.specs.Ranges.{Slot, Vacant, Retired, Taken, Nothing, look, sl
 use Rattle.id_pool.specs.Answers.{find_says, value_says}
 use Rattle.sim_run.specs.declared.ticket.Ticket.{Ticket}
 use Rattle.sim_run.specs.declared.state.Replay.{Replay}
-use Rattle.sim_run.specs.declared.open_call.Turn.TheVariants as turn
+use Rattle.sim_run.specs.declared.turn.Turn.TheVariants as turn
 use Rattle.sim_run.specs.Link.{Link}
 use Rattle.sim_run.specs.Slots.{visit, visit_by, turned, brought, brought_to, brought_wires, brought_wires_to}
 use Rattle.sim_run.specs.Sends.{issue_by, LookMayIssue}

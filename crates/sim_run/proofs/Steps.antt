@@ -12,7 +12,7 @@ use Rattle.id_pool.specs.Ids.{one_less, slot_of, version_of}
 use Rattle.id_pool.specs.Ranges.{Slot, Vacant, Retired, Taken, Range, Free, Nothing, Unlocked, offset, seen, seen_at, seen_in, look, slot_at, change, change_at, changed}
 use Rattle.id_pool.specs.Answers.{value_says}
 use Rattle.sim_run.specs.declared.ticket.Ticket.{Ticket}
-use Rattle.sim_run.specs.declared.open_call.Turn.TheVariants as turn
+use Rattle.sim_run.specs.declared.turn.Turn.TheVariants as turn
 use Rattle.sim_run.specs.Slots.{visit, visit_by, visited, turned}
 use Rattle.sim_run.specs.Desk.{stand, standing_at, standings, IsOf, IsOfSlot, IsNumbered, IsKnown, is_taken, IsRange, IsSlot, IsSound, IsPast}
 use Rattle.sim_run.proofs.Later.{IsLater, apply-moment, turned-later}

@@ -11,8 +11,8 @@ use Rattle.sim_run.specs.declared.slots.Finished.{Finished}
 use Rattle.rpc_model.specs.declared.event.Event.TheVariants as event
 use Rattle.id_pool.specs.Answers.{find_says}
 use Rattle.sim_run.specs.declared.wire.Reply.{Reply}
-use Rattle.sim_run.specs.declared.open_call.Turn.{Turn}
-use Rattle.sim_run.specs.declared.open_call.Turn.TheVariants as turn
+use Rattle.sim_run.specs.declared.turn.Turn.{Turn}
+use Rattle.sim_run.specs.declared.turn.Turn.TheVariants as turn
 use Rattle.sim_run.specs.Link.{Link}
 use Rattle.sim_run.specs.Sends.{issue_by}
 use Rattle.id_pool.specs.Ranges.{changed, look, Range, Slot, Taken, Seen, Nothing, Unlocked, Locked, Free, seen, left_by, with_value}

@@ -2,11 +2,13 @@
 //! that tells its end; requests go out on wires, and replies come back as frames that find their calls by id alone.
 #![tactic(auto)]
 
+mod marking;
 mod open_call;
 mod replaying;
 mod slots;
 mod state;
 mod ticket;
+mod turn;
 mod wire;
 mod wires;
 

@@ -11,21 +11,13 @@ ghost use Rattle.call_leaf.specs.Keeps.{event_of};
 ghost use Rattle.sim_run.specs.Calls.{due_after, stepped, taken_due, finished_once};
 ghost use Rattle.sim_run.specs.Slots.{turned};
 
+use crate::turn::Turn;
 use crate::wires::server_of;
 use call_leaf::{Leaf, LeafEvent, LeafStep};
 use rpc_base::{Bytes, NoMemory};
 use rpc_model::{ECANCELED, End, Event, LeafChan, Told};
 use std::alloc::Global;
 use std::marker::Model;
-
-/// What comes to a call.
-#[derive(Drop)]
-pub(crate) enum Turn {
-    /// An outer event, or what became of an attempt.
-    Event(Event),
-    /// This moment is reached, in milliseconds.
-    Due(u64),
-}
 
 /// A call on a plain channel: its attempts, its end, and its marks that weren't taken.
 #[derive(Drop)]

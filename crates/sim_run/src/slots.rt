@@ -9,7 +9,8 @@ ghost use Rattle.rpc_model.specs.Machine.{attempts};
 ghost use Rattle.sim_run.specs.Slots.{IsFirst, visit, touch, turned, brought, brought_wires, reply_event, loss_event, finished, finished_of, join, join_says};
 ghost use Rattle.sim_run.specs.Sends.{MayIssueFrom, FoundMayIssue, LookMayIssue, posted, issue_found, issue_by};
 
-use crate::open_call::{OpenCall, Turn};
+use crate::open_call::OpenCall;
+use crate::turn::Turn;
 use crate::wire::{Reply, Wire};
 use crate::wires::send;
 use id_pool::{Collect, Lock, Pool, Refused};

@@ -1,29 +1,31 @@
 ghost use Rattle.std.specs.Prelude.{◌≡◌, ℕ, ◌+◌, ◌*◌, ◌^◌, ◌<◌, ◌≤◌, List, [], ◌∷◌, ◌++◌, max, nat_eq, length, find, take, Option, None, Some, OnOk, OnErr, IfOk, All, false};
 ghost use Rattle.std.specs.Map.{keys_of, lookup};
-ghost use Rattle.rpc_model.specs.Fits.{Fits, IsAct, IsMoment, IsWait, called};
+ghost use Rattle.rpc_model.specs.Fits.{Fits, IsAct, IsMoment, called};
 ghost use Rattle.rpc_model.specs.Machine.{server_of};
 ghost use Rattle.rpc_model.specs.Plan.{leaf_plan, plan};
 ghost use Rattle.rpc_model.specs.Told as spec;
 ghost use Rattle.rpc_model.specs.declared.event.Event.TheVariants as event;
 ghost use Rattle.rpc_model.specs.Early.{settled};
 ghost use Rattle.sim_run.specs.Desk.{IsReady, replay_of, ticket_in, IsNew};
-ghost use Rattle.sim_run.specs.Marked.{AreSettled, with_mark, with_marks};
+ghost use Rattle.sim_run.specs.Marked.{AreSettled};
 ghost use Rattle.std.specs.List.{AllByRecursion, IsDistinct};
 ghost use Rattle.link_core.specs.Outstanding.{is_outstanding};
 ghost use Rattle.rpc_model.specs.declared.told.Told.TheVariants.{Full as full};
 ghost use Rattle.sim_run.specs.Wires.{IsChangedAt, sent, server_on};
 
-use crate::open_call::{OpenCall, Turn};
+use crate::marking::set_marks;
+use crate::open_call::OpenCall;
 use crate::slots::{bring, deliver, join, lose, take_slot};
 use crate::ticket::Ticket;
+use crate::turn::Turn;
 use crate::wire::Wire;
 use crate::wires::{forget, leaf_of, open_wires, receive, send, server_on};
 use id_pool::Pool;
 use indexmap::IndexMap;
 use rpc_base::{Bytes, List, NoMemory};
-use rpc_model::{Act, EBACKUPREQUEST, ERPCTIMEDOUT, Event, LeafChan, Script, Told};
+use rpc_model::{Act, Event, LeafChan, Script, Told};
 use std::alloc::Global;
-use timer_core::{Mark, Marks};
+use timer_core::Marks;
 
 /// The moment reached, in milliseconds; the calls by their numbers, in the order of their lines, `None` where a call found
 /// no slot; the slots; a wire for each server; and the marks of all calls, each with the first id of its call.
@@ -348,42 +350,6 @@ impl Replay {
             Act::Join { call } => self.join(script, *call, told),
         }
     }
-}
-
-/// Sets the marks of a call that begins at a moment: its deadline, and its backup request.
-fn set_marks(marks: &mut Marks, first: u64, leaf: &LeafChan, moment: u64) -> Result<(), NoMemory>
-    requires timeout { IsWait leaf.now.timeout }
-    requires backup { IsWait leaf.now.backup }
-    requires early { moment < 2 ^ 60 }
-    ensures { OnOk result (marks.new ≡ with_marks first leaf.now moment marks.old) }
-{
-    set_mark(marks, first, leaf.timeout, moment, 0, ERPCTIMEDOUT)?;
-    set_mark(marks, first, leaf.backup, moment, 1, EBACKUPREQUEST)?;
-    Ok(())
-}
-
-/// Sets a mark so many milliseconds ahead, where there is a wait.
-fn set_mark(
-    marks: &mut Marks,
-    first: u64,
-    wait: Option<u32>,
-    moment: u64,
-    rank: u32,
-    code: u32,
-) -> Result<(), NoMemory>
-    requires wait { IsWait wait }
-    requires early { moment < 2 ^ 60 }
-    ensures { OnOk result (marks.new ≡ with_mark first moment wait rank code marks.old) }
-{
-    let Some(wait) = wait else {
-        return Ok(());
-    };
-    marks.add(Mark {
-        moment: moment + u64::from(wait),
-        rank,
-        id: first,
-        code,
-    })
 }
 
 fn clone_bytes(alloc: Global, bytes: &Bytes) -> Result<Bytes, NoMemory>
