@@ -6,6 +6,10 @@ pub mod Marks
 pub mod Told
 pub mod Text
 pub mod Words
+pub mod Before
+pub mod SettingLines
+pub mod ChannelLines
+pub mod CallLines
 pub mod Lines
 pub mod Script
 pub mod Fits

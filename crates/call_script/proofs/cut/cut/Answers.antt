@@ -2,7 +2,7 @@
 use Rattle.std.proofs.Common.{rules, ◌==◌}
 use Rattle.std.proofs.lemmas.Iterator.Consumers.{map_from_collect}
 use Rattle.std.proofs.lemmas.Iterator.Splits.{YieldsList-from_slice_split}
-use Rattle.call_script.proofs.reader.cut.Goals as goal
+use Rattle.call_script.proofs.cut.cut.Goals as goal
 
 pub returns : goal.returns
 returns c =

@@ -4,7 +4,7 @@ use Rattle.std.proofs.lemmas.List.Folds.{list_all-map}
 use Rattle.std.proofs.lemmas.Iterator.Search.{all_from_yields_List}
 use Rattle.std.proofs.lemmas.Iterator.{YieldsList-from_slice}
 use Rattle.rpc_model.specs.Words.{is_name}
-use Rattle.call_script.proofs.reader.all_names.Goals as goal
+use Rattle.call_script.proofs.reader.channel_lines.all_names.Goals as goal
 
 pub returns : goal.returns
 returns c =
