@@ -3,8 +3,8 @@ ghost use Rattle.rpc_base.specs.Causes.{Rose};
 ghost use Rattle.brpc_top.specs.Answers.{IsRead, ReadsMore};
 ghost use Rattle.brpc_top.specs.declared.input.ReadStop.TheVariants as stop;
 
-use call_script::SCRIPT_LIMIT;
 use rpc_base::{Failed, Source};
+use rpc_model::SCRIPT_LIMIT;
 use std::alloc::{AllocError, Global};
 
 /// How many bytes one read asks for.
