@@ -7,6 +7,7 @@
 
 mod chan;
 mod codes;
+mod direction;
 mod event;
 mod laws;
 mod limits;
@@ -20,6 +21,7 @@ pub use codes::{
     ELIMIT, ELOGOFF, ENOMETHOD, ENOSERVICE, EPCHANFINISH, EPIPE, EREQUEST, ERESPONSE, ERPCTIMEDOUT,
     ETOOMANYFAILS, retriable,
 };
+pub use direction::Direction;
 pub use event::{End, Event};
 pub use laws::{
     attempts_are_few, due_marks_may_be_taken_at_once, ends_stay, one_attempt,
