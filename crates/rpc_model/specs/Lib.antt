@@ -8,6 +8,7 @@ pub mod Text
 pub mod Words
 pub mod Lines
 pub mod Script
+pub mod Gone
 pub mod Fits
 pub mod Moments
 pub mod Early

@@ -1,0 +1,14 @@
+pub mod Chains
+pub mod Endings
+pub mod Focus
+pub mod Joins
+pub mod Laws
+pub mod Logs
+pub mod Openings
+pub mod Owning
+pub mod Posting
+pub mod Quiet
+pub mod Receipts
+pub mod Steps
+pub mod Taking
+pub mod Turns
