@@ -14,9 +14,9 @@ use Rattle.id_rule.specs.Steps.{Mine}
 use Rattle.id_rule.specs.Carried.{without, IsOut, IsAbsent, AreHeld, IsFront}
 use Rattle.id_rule.specs.declared.rule.Sizes.{Sizes}
 use Rattle.id_rule.specs.declared.view.View.{View}
+use Rattle.id_rule.proofs.Lists.{set_there}
+use Rattle.id_rule.proofs.Nodes.{view_notes}
 use Rattle.id_rule.proofs.Turns.{locked_word}
-use Rattle.id_rule.proofs.Steps.{set_there}
-use Rattle.id_rule.proofs.Owning.{view_notes}
 
 module _ {S : Type 0} where
   -- the slot k goes home, from wherever it is
@@ -29,10 +29,12 @@ module _ {S : Type 0} where
   AreAllOut hs [] = Unit {0}
   AreAllOut hs (x ∷ c) = (get_elem? hs x.0 ≡ some none) × IsAbsent x.0 c × AreAllOut hs c
 
+  -- the other slots of the list stay out
   out_else : (hs : List (maybe.Option S)) (k : ℕ) (h : maybe.Option S) (c : List (ℕ × S)) → IsAbsent k c → AreAllOut hs c → AreAllOut (set hs k h) c
   out_else hs k h [] away out = tt
   out_else hs k h (x ∷ c) away out = (set_else hs k x.0 h away.0 ∙ out.0, out.1, out_else hs k h c away.1 out.2)
 
+  -- a slot of the list is out
   out_there : (hs : List (maybe.Option S)) (k : ℕ) (y : S) (c : List (ℕ × S)) → AreAllOut hs c → IsOut k y c → get_elem? hs k ≡ some none
   out_there hs k y [] out there = absurd there
   out_there hs k y (x ∷ c) out there = ⊎_elim
@@ -40,11 +42,13 @@ module _ {S : Type 0} where
       (λ t. out_there hs k y c out.2 t.1)
       there
 
+-- the later of two writes at one place counts
 set_twice : {A : Type 0} (l : List A) (i : ℕ) (a b : A) → set (set l i a) i b ≡ set l i b
 set_twice [] i a b = refl
 set_twice (x ∷ xs) zero a b = refl
 set_twice (x ∷ xs) (suc i) a b = ap (λ l. x ∷ l) (set_twice xs i a b)
 
+-- writes at two places may be swapped
 set_swap : {A : Type 0} (l : List A) (i j : ℕ) (a b : A) → i ≢ j → set (set l i a) j b ≡ set (set l j b) i a
 set_swap [] i j a b ne = refl
 set_swap (x ∷ xs) zero zero a b ne = absurd (ne refl)
@@ -53,9 +57,11 @@ set_swap (x ∷ xs) (suc i) zero a b ne = refl
 set_swap (x ∷ xs) (suc i) (suc j) a b ne = ap (λ l. x ∷ l) (set_swap xs i j a b (λ e. ne (ap suc e)))
 
 module _ {S : Type 0} where
+  -- what the act leaves: the slot at home with y in it, and the rest of the list
   abbrev IsDropped : List (maybe.Option S) → List (ℕ × S) → ℕ → S → List (ℕ × S) → Act S → Type 0
   IsDropped hs c k y rest a = Valid hs c a × (homes_after hs c a ≡ set hs k (some y)) × (carried_after c a ≡ rest)
 
+  -- the act that puts the slot home
   drops_ok : (hs : List (maybe.Option S)) (c : List (ℕ × S)) (k : ℕ) (y : S) → AreAllOut hs c → IsOut k y c → IsDropped hs c k y (without k c) (drops k c)
   drops_ok hs [] k y out there = absurd there
   drops_ok hs (x ∷ c) k y out there = ⊎_elim
@@ -71,7 +77,8 @@ module _ {S : Type 0} where
       let ih = drops_ok hs1 c k y (out_else hs x.0 (some x.1) c out.1 out.2) t.1 in
       let back : get_elem? (set hs1 k (some y)) x.0 ≡ some (some x.1) = set_else hs1 k x.0 (some y) ne ∙ set_there hs x.0 none (some x.1) out.0 in
       let homes : set (set hs1 k (some y)) x.0 none ≡ set hs k (some y) =
-      ap (λ l. set l x.0 none) (set_swap hs x.0 k (some x.1) (some y) ne) ∙ set_twice (set hs k (some y)) x.0 (some x.1) none ∙ set_again (set hs k (some y)) x.0 none (set_else hs k x.0 (some y) ne ∙ out.0) in
+      ap (λ l. set l x.0 none) (set_swap hs x.0 k (some x.1) (some y) ne) ∙ set_twice (set hs k (some y)) x.0 (some x.1) none
+      ∙ set_again (set hs k (some y)) x.0 none (set_else hs k x.0 (some y) ne ∙ out.0) in
       subst (λ b. IsDropped hs (x ∷ c) k y (if b then c else x ∷ without k c) (if b then gives else chain gives (chain (drops k c) (takes x.0 x.1)))) (sym e)
       ((tt, (ih.0, ap (λ l. get_elem? l x.0) ih.1 ∙ back)), (ap (λ l. set l x.0 none) ih.1 ∙ homes), ap (λ l. x ∷ l) ih.2))
       there
@@ -85,13 +92,16 @@ module _ {S : Type 0} where
       ((d.0, ap (λ l. get_elem? l k) d.1 ∙ set_there hs k none (some y) was), (ap (λ l. set l k none) d.1 ∙ set_twice hs k (some y) none ∙ set_again hs k none was), ap (λ l. (k, y) ∷ l) d.2)
 
 module _ {T E : Type 0} (log : T → List E) (first_id : T → ℕ) (rec : E → Option Receipt) where
-  carried_out : (sizes : Sizes) (s : State (Option T) (View E)) (id : ℕ) (v : View E) (c : List (ℕ × Option T)) → IsKept log first_id rec sizes s → get_elem? s.views id ≡ some v → AreHeld sizes.slots v c → AreAllOut s.homes c
+  -- the slots that a seat holds are out
+  carried_out : (sizes : Sizes) (s : State (Option T) (View E)) (id : ℕ) (v : View E) (c : List (ℕ × Option T)) → IsKept log first_id rec sizes s → get_elem? s.views id ≡ some v
+      → AreHeld sizes.slots v c → AreAllOut s.homes c
   carried_out sizes s id v [] kept at all = tt
   carried_out sizes s id v (x ∷ c) kept at all =
       let k = kept.at.1 x.0 (subst (λ (z : ℕ). x.0 < z) (sym kept.at.0) all.0) in
       let lw = locked_word log first_id rec x.0 k.0 id all.1.0 all.1.1 (part_of v x.0) (k.1.fits id v at) all.1.2 in
       (k.1.home_is ∙ ap (λ p. some (home_value p)) lw.4, all.2, carried_out sizes s id v c kept at all.3)
 
+  -- one slot of the list has one value
   stands_one : (k : ℕ) (y z : Option T) (c : List (ℕ × Option T)) → IsOut k y c → IsOut k z c → y ≡ z
   stands_one k y z [] a b = absurd a
   stands_one k y z (x ∷ c) a b = ⊎_elim
@@ -99,7 +109,9 @@ module _ {T E : Type 0} (log : T → List E) (first_id : T → ℕ) (rec : E →
       (λ t. ⊎_elim (λ u. absurd (t.0 u.0)) (λ u. stands_one k y z c t.1 u.1) b)
       a
 
-  pub front_keeps : (sizes : Sizes) (slots id i : ℕ) (me : Mine T E) (y : Option T) → i < sizes.slots → IsOut i y me.1 → AreHeld sizes.slots me.0 me.1 → Allows (IsKept log first_id rec sizes) slots id me i (λ n. n) (IsFront (step slots i 0 0 none) me)
+  -- bringing a held slot to the front keeps the rule
+  pub front_keeps : (sizes : Sizes) (slots id i : ℕ) (me : Mine T E) (y : Option T) → i < sizes.slots → IsOut i y me.1 → AreHeld sizes.slots me.0 me.1
+      → Allows (IsKept log first_id rec sizes) slots id me i (λ n. n) (IsFront (step slots i 0 0 none) me)
   front_keeps sizes slots id i me y low there all s kept wide at _ =
       let k = kept.at.1 i (subst (λ (z : ℕ). i < z) (sym kept.at.0) low) in
       let front = fronts s.homes me.1 i y (carried_out sizes s id me.0 me.1 kept at all) there in

@@ -1,141 +1,31 @@
--- C3: a pass takes in another; the seat of what that one had is now its own.
-use Rattle.std.proofs.Common.{⊎_elim, inl, inr, ◌⊎◌, ◌≡◌, ◌≢◌, ℕ, ◌+◌, ◌<◌, eq-eqb, ne_eqb, List, [], ◌∷◌, ◌++◌, append-nil, length, set, length-set, refl, sym, ap, ap₂, ◌∙◌, subst, arith, Option, Some, None}
-use Rattle.std.specs.Prelude.{◌==◌, if◌then◌else◌, max}
-use mathlib.Core.Logic.{dite}
+-- A pass takes in another: the seat of what that one had is now its own.
+use Rattle.std.proofs.Common.{⊎_elim, ◌≡◌, ◌≢◌, ℕ, ◌+◌, ◌<◌, List, [], ◌∷◌, ◌++◌, length, set, length-set, refl, sym, ap, ap₂, ◌∙◌, subst, arith, Option}
+use Rattle.std.proofs.Common.{Some, None}
 use mathlib.Core.Option.{some}
-use native.Mathlib.Decide.{ℕ_discrete}
 use lib.ListN.{get_elem?}
 use Rattle.atomic_table.specs.Table.{Joins}
 use Rattle.atomic_table.proofs.Lists.{set_else}
 use Rattle.id_rule.specs.declared.view.Receipt.{Receipt}
 use Rattle.id_rule.specs.Nodes.{Place, idle, in_hand, in_queue, on_list, numbers_of, pass_of_node, IsTakenList, IsPlaced, IsNode}
 use Rattle.id_rule.specs.Receipts.{History, HasSent, receipts_of_range}
-use Rattle.id_rule.specs.Parts.{HasNumber, blank_part, part_at, part_of, HasLog, spent_view, AreAll, own_number}
-use Rattle.id_rule.specs.Changes.{either_of, joined_part, joined_parts, joined_view}
-use Rattle.id_rule.specs.Phases.{Range, Phase, vacant, reserved, free, locked, ended, taken, retired, slot_word, home_value, AreBefore, AreWithin, IsPart, IsSeated, IsSound}
+use Rattle.id_rule.specs.Parts.{HasNumber, blank_part, part_of, HasLog, spent_view, own_number}
+use Rattle.id_rule.specs.Changes.{either_of, joined_part, joined_view}
+use Rattle.id_rule.specs.Phases.{Phase, vacant, reserved, free, locked, ended, taken, retired, slot_word, home_value, IsPart, IsSeated, IsSound}
 use Rattle.id_rule.specs.Rule.{HasInHand, IsNumbered, IsChained, IsTold, IsInformed, IsKept}
 use Rattle.id_rule.specs.declared.rule.Sizes.{Sizes}
-use Rattle.id_rule.specs.declared.view.Known.{Known}
 use Rattle.id_rule.specs.declared.view.Part.{Part}
 use Rattle.id_rule.specs.declared.view.View.{View}
+use Rattle.id_rule.proofs.Lists.{views_after, there_below}
 use Rattle.id_rule.proofs.Receipts.{at_append, numbers_append}
-use Rattle.id_rule.proofs.Steps.{views_after, there_below}
-use Rattle.id_rule.proofs.Turns.{yes_if, no_if}
+use Rattle.id_rule.proofs.Seats.{seat_now, renamed, now_id, now_other, now_third, seat_low, seat_both, seat_spent, seat_third, list_both, knew_joined, before_both, within_both, joined_is}
+use Rattle.id_rule.proofs.Seats.{has_joined, each_both, each_map}
 
-abbrev pub seat_now : ℕ → ℕ → ℕ → ℕ
-seat_now other id who = if who == other then id else who
-
-abbrev pub range_now : ℕ → ℕ → Range → Range
-range_now other id r = record { first = r.first; size = r.size; owner = seat_now other id r.owner }
-
-abbrev pub renamed : {T E : Type 0} → ℕ → ℕ → Phase T E → Phase T E
-renamed other id (vacant f) = vacant f
-renamed other id (reserved f r who) = reserved f r (seat_now other id who)
-renamed other id (free r x) = free (range_now other id r) x
-renamed other id (locked r who l qs got) = locked (range_now other id r) (seat_now other id who) l qs got
-renamed other id (ended r x) = ended (range_now other id r) x
-renamed other id (taken r l) = taken (range_now other id r) l
-renamed other id (retired f) = retired f
-
-one_of_none : {A : Type 0} (a : Option A) → either_of a None ≡ a
-one_of_none None = refl
-one_of_none (Some a) = refl
-
-module _ (other id : ℕ) (apart : other ≢ id) where
-  now_id : seat_now other id id ≡ id
-  now_id = no_if id other id id (λ e. apart (sym e))
-
-  now_other : seat_now other id other ≡ id
-  now_other = yes_if other other id other refl
-
-  now_third : (by : ℕ) → by ≢ other → seat_now other id by ≡ by
-  now_third by ne = no_if by other id by ne
-
-  seat_low : (who n : ℕ) → id < n → who < n → seat_now other id who < n
-  seat_low who n a b = dite (ℕ_discrete who other) (λ e. subst (λ (z : ℕ). z < n) (sym (yes_if who other id who e)) a) (λ ne. subst (λ (z : ℕ). z < n) (sym (no_if who other id who ne)) b)
-
--- what either had, the one pass has; the other has nothing, and a third has what it had
-module _ {A : Type 0} (x : A) (other id : ℕ) (apart : other ≢ id) where
-  seat_both : (who : ℕ) → either_of (if who == id then Some x else None) (if who == other then Some x else None) ≡ (if seat_now other id who == id then Some x else None)
-  seat_both who = dite (ℕ_discrete who other)
-      (λ same. ap₂ either_of (no_if who id (Some x) None (λ e. apart (sym same ∙ e))) (yes_if who other (Some x) None same) ∙ sym (yes_if (seat_now other id who) id (Some x) None (yes_if who other id who same)))
-      (λ ne. ap (either_of (if who == id then Some x else None)) (no_if who other (Some x) None ne) ∙ one_of_none (if who == id then Some x else None) ∙ ap (λ (z : ℕ). if z == id then Some x else None) (sym (no_if who other id who ne)))
-
-module _ {X : Type 0} (yes none : X) (other id : ℕ) (apart : other ≢ id) where
-  seat_spent : (who : ℕ) → (if seat_now other id who == other then yes else none) ≡ none
-  seat_spent who = dite (ℕ_discrete who other)
-      (λ same. no_if (seat_now other id who) other yes none (λ e. apart (sym e ∙ yes_if who other id who same)))
-      (λ ne. no_if (seat_now other id who) other yes none (λ e. ne (sym (no_if who other id who ne) ∙ e)))
-
-  seat_third : (by who : ℕ) → by ≢ other → by ≢ id → (if seat_now other id who == by then yes else none) ≡ (if who == by then yes else none)
-  seat_third by who a b = dite (ℕ_discrete who other)
-      (λ same. no_if (seat_now other id who) by yes none (λ e. b (sym e ∙ yes_if who other id who same)) ∙ sym (no_if who by yes none (λ e. a (sym e ∙ same))))
-      (λ ne. ap (λ (z : ℕ). if z == by then yes else none) (no_if who other id who ne))
-
-module _ {X : Type 0} (xs : List X) (other id : ℕ) (apart : other ≢ id) where
-  abbrev none_x : List X
-  none_x = []
-
-  list_both : (who : ℕ) → (if who == id then xs else none_x) ++ (if who == other then xs else none_x) ≡ (if seat_now other id who == id then xs else none_x)
-  list_both who = dite (ℕ_discrete who other)
-      (λ same. ap₂ (λ (a b : List X). a ++ b) (no_if who id xs none_x (λ e. apart (sym same ∙ e))) (yes_if who other xs none_x same) ∙ sym (yes_if (seat_now other id who) id xs none_x (yes_if who other id who same)))
-      (λ ne. ap (λ (b : List X). (if who == id then xs else none_x) ++ b) (no_if who other xs none_x ne) ∙ append-nil (if who == id then xs else none_x) ∙ ap (λ (z : ℕ). if z == id then xs else none_x) (sym (no_if who other id who ne)))
-
-module _ {E : Type 0} where
-  pub knew_joined : (ks js : List (Known E)) (f : ℕ) (l : List E) → HasLog (ks ++ js) f l → HasLog ks f l ⊎ HasLog js f l
-  knew_joined [] js f l h = inr h
-  knew_joined (k ∷ ks) js f l h = ⊎_elim (λ t. inl (inl t)) (λ t. ⊎_elim (λ u. inl (inr u)) inr (knew_joined ks js f l t)) h
-
-  before_both : (f : ℕ) (ks js : List (Known E)) → AreBefore f ks → AreBefore f js → AreBefore f (ks ++ js)
-  before_both f ks js a b g l h = ⊎_elim (a g l) (b g l) (knew_joined ks js g l h)
-
-  within_both : (f : ℕ) (lg : List E) (ks js : List (Known E)) → AreWithin f lg ks → AreWithin f lg js → AreWithin f lg (ks ++ js)
-  within_both f lg ks js a b g l h = ⊎_elim (a g l) (b g l) (knew_joined ks js g l h)
-
-  with_blank : (p : Part E) → joined_part p blank_part ≡ p
-  with_blank p = let most : max p.ended_below 0 ≡ p.ended_below = omega arith in λ z. record {
-    spot = one_of_none p.spot z;
-    hold = one_of_none p.hold z;
-    owner = one_of_none p.owner z;
-    logs = append-nil p.logs z;
-    turn = one_of_none p.turn z;
-    last = append-nil p.last z;
-    destroyed = append-nil p.destroyed z;
-    taking = one_of_none p.taking z;
-    ended_below = most z;
-    receipts = append-nil p.receipts z;
-    dropped = append-nil p.dropped z;
-    got = append-nil p.got z;
-  }
-
-  joined_at : (ps qs ks : List (ℕ × Part E)) (i : ℕ) → (part_at (joined_parts ps qs ks) i ≡ joined_part (part_at ps i) (part_at qs i)) ⊎ ((part_at (joined_parts ps qs ks) i ≡ part_at ps i) × (part_at ks i ≡ blank_part))
-  joined_at ps qs [] i = inr (refl, refl)
-  joined_at ps qs (k ∷ ks) i = dite (ℕ_discrete k.0 i)
-      (λ same. inl (ap (λ b. if b then joined_part (part_at ps k.0) (part_at qs k.0) else part_at (joined_parts ps qs ks) i) (eq-eqb k.0 i same) ∙ ap (λ (z : ℕ). joined_part (part_at ps z) (part_at qs z)) same))
-      (λ ne. ⊎_elim
-      (λ t. inl (ap (λ b. if b then joined_part (part_at ps k.0) (part_at qs k.0) else part_at (joined_parts ps qs ks) i) (ne_eqb k.0 i ne) ∙ t))
-      (λ t. inr (ap (λ b. if b then joined_part (part_at ps k.0) (part_at qs k.0) else part_at (joined_parts ps qs ks) i) (ne_eqb k.0 i ne) ∙ t.0, ap (λ b. if b then k.1 else part_at ks i) (ne_eqb k.0 i ne) ∙ t.1))
-      (joined_at ps qs ks i))
-
-  pub joined_is : (ps qs : List (ℕ × Part E)) (i : ℕ) → part_at (joined_parts ps qs qs) i ≡ joined_part (part_at ps i) (part_at qs i)
-  joined_is ps qs i = ⊎_elim (λ t. t) (λ t. t.0 ∙ sym (ap (joined_part (part_at ps i)) t.1 ∙ with_blank (part_at ps i))) (joined_at ps qs qs i)
-
-has_joined : (a : ℕ) (ns ms : List ℕ) → HasNumber a (ns ++ ms) → HasNumber a ns ⊎ HasNumber a ms
-has_joined a [] ms h = inr h
-has_joined a (n ∷ ns) ms h = ⊎_elim (λ t. inl (inl t)) (λ t. ⊎_elim (λ u. inl (inr u)) inr (has_joined a ns ms t)) h
-
-each_both : (P : ℕ → Type 0) (ns ms : List ℕ) → AreAll P ns → AreAll P ms → AreAll P (ns ++ ms)
-each_both P [] ms a b = b
-each_both P (n ∷ ns) ms a b = (a.0, each_both P ns ms a.1 b)
-
-each_map : (P Q : ℕ → Type 0) (ns : List ℕ) → ((n : ℕ) → P n → Q n) → AreAll P ns → AreAll Q ns
-each_map P Q [] f a = tt
-each_map P Q (n ∷ ns) f a = (f n a.0, each_map P Q ns f a.1)
-
+-- the history, with the seats after the join
 abbrev pub ghost_now : {E : Type 0} → ℕ → ℕ → History E → History E
 ghost_now other id g = record { numbered = g.numbered; last = g.last; lost = g.lost; ender = λ s f. seat_now other id (g.ender s f); sent = g.sent; width = g.width }
 
 module _ {T E : Type 0} (log : T → List E) (first_id : T → ℕ) (rec : E → Option Receipt) (other id : ℕ) (apart : other ≢ id) where
+  -- the join leaves the word
   face_now : (ph : Phase T E) → slot_word (renamed other id ph) ≡ slot_word ph
   face_now (vacant f) = refl
   face_now (reserved f r who) = refl
@@ -145,6 +35,7 @@ module _ {T E : Type 0} (log : T → List E) (first_id : T → ℕ) (rec : E →
   face_now (taken r l) = refl
   face_now (retired f) = refl
 
+  -- the join leaves what lies in the slot
   home_now : (ph : Phase T E) → home_value (renamed other id ph) ≡ home_value ph
   home_now (vacant f) = refl
   home_now (reserved f r who) = refl
@@ -154,6 +45,7 @@ module _ {T E : Type 0} (log : T → List E) (first_id : T → ℕ) (rec : E →
   home_now (taken r l) = refl
   home_now (retired f) = refl
 
+  -- the join leaves the numbers
   sound_now : (slot : ℕ) (ph : Phase T E) → IsSound first_id slot ph → IsSound first_id slot (renamed other id ph)
   sound_now slot (vacant f) h = h
   sound_now slot (reserved f r who) h = h
@@ -163,6 +55,7 @@ module _ {T E : Type 0} (log : T → List E) (first_id : T → ℕ) (rec : E →
   sound_now slot (taken r l) h = h
   sound_now slot (retired f) h = h
 
+  -- the seats after the join are among the same seats
   seated_now : (n : ℕ) (ph : Phase T E) → id < n → IsSeated ph n → IsSeated (renamed other id ph) n
   seated_now n (vacant f) low h = tt
   seated_now n (reserved f r who) low h = seat_low other id apart who n low h
@@ -172,6 +65,7 @@ module _ {T E : Type 0} (log : T → List E) (first_id : T → ℕ) (rec : E →
   seated_now n (taken r l) low h = seat_low other id apart r.owner n low h
   seated_now n (retired f) low h = tt
 
+  -- the join leaves the chain
   chained_now : (k : ℕ) (place : ℕ → Place) (slot : ℕ) (ws : List ℕ) (ph : Phase T E) → IsChained k place slot ws ph → IsChained k place slot ws (renamed other id ph)
   chained_now k place slot ws (vacant f) h = h
   chained_now k place slot ws (reserved f r who) h = h
@@ -181,6 +75,7 @@ module _ {T E : Type 0} (log : T → List E) (first_id : T → ℕ) (rec : E →
   chained_now k place slot ws (taken r l) h = h
   chained_now k place slot ws (retired f) h = h
 
+  -- the join leaves the receipts of the slot
   told_now : (g : History E) (slot : ℕ) (ph : Phase T E) → IsTold log rec g slot ph → IsTold log rec (ghost_now other id g) slot (renamed other id ph)
   told_now g slot (vacant f) h = h
   told_now g slot (reserved f r who) h = h
@@ -266,8 +161,26 @@ module _ {T E : Type 0} (log : T → List E) (first_id : T → ℕ) (rec : E →
   -- a seat that isn't named has nothing of the slot, as the one that was taken in
   fits_spent : (ph : Phase T E) → IsPart log (renamed other id ph) other blank_part
   fits_spent (vacant f) = record { spot = refl; hold = refl; owner = refl; knows = λ g l h. absurd h; turn = refl; taking = refl; ended_below = omega arith; got = refl }
-  fits_spent (reserved f r who) = record { spot = sym (seat_spent (Some (f, r)) None other id apart who); hold = refl; owner = refl; knows = λ g l h. absurd h; turn = refl; taking = refl; ended_below = omega arith; got = refl }
-  fits_spent (free r x) = record { spot = refl; hold = refl; owner = sym (seat_spent (Some (r.first, r.size)) None other id apart r.owner); knows = λ g l h. absurd h; turn = refl; taking = refl; ended_below = omega arith; got = refl }
+  fits_spent (reserved f r who) = record {
+    spot = sym (seat_spent (Some (f, r)) None other id apart who);
+    hold = refl;
+    owner = refl;
+    knows = λ g l h. absurd h;
+    turn = refl;
+    taking = refl;
+    ended_below = omega arith;
+    got = refl;
+  }
+  fits_spent (free r x) = record {
+    spot = refl;
+    hold = refl;
+    owner = sym (seat_spent (Some (r.first, r.size)) None other id apart r.owner);
+    knows = λ g l h. absurd h;
+    turn = refl;
+    taking = refl;
+    ended_below = omega arith;
+    got = refl;
+  }
   fits_spent (locked r who l qs got) = record {
     spot = refl;
     hold = sym (seat_spent (Some (r.first, r.size)) None other id apart who);
@@ -278,14 +191,52 @@ module _ {T E : Type 0} (log : T → List E) (first_id : T → ℕ) (rec : E →
     ended_below = omega arith;
     got = sym (seat_spent got [] other id apart who);
   }
-  fits_spent (ended r x) = record { spot = refl; hold = refl; owner = sym (seat_spent (Some (r.first, r.size)) None other id apart r.owner); knows = λ g l h. absurd h; turn = refl; taking = refl; ended_below = omega arith; got = refl }
-  fits_spent (taken r l) = record { spot = refl; hold = refl; owner = refl; knows = λ g k h. absurd h; turn = refl; taking = sym (seat_spent (Some (r.first, r.size)) None other id apart r.owner); ended_below = omega arith; got = refl }
+  fits_spent (ended r x) = record {
+    spot = refl;
+    hold = refl;
+    owner = sym (seat_spent (Some (r.first, r.size)) None other id apart r.owner);
+    knows = λ g l h. absurd h;
+    turn = refl;
+    taking = refl;
+    ended_below = omega arith;
+    got = refl;
+  }
+  fits_spent (taken r l) = record {
+    spot = refl;
+    hold = refl;
+    owner = refl;
+    knows = λ g k h. absurd h;
+    turn = refl;
+    taking = sym (seat_spent (Some (r.first, r.size)) None other id apart r.owner);
+    ended_below = omega arith;
+    got = refl;
+  }
   fits_spent (retired f) = record { spot = refl; hold = refl; owner = refl; knows = λ g l h. absurd h; turn = refl; taking = refl; ended_below = tt; got = refl }
 
+  -- a third pass's part fits as before
   fits_third : (ph : Phase T E) (by : ℕ) (p : Part E) → by ≢ other → by ≢ id → IsPart log ph by p → IsPart log (renamed other id ph) by p
   fits_third (vacant f) by p a b w = w
-  fits_third (reserved f r who) by p a b w = record { spot = w.spot ∙ sym (seat_third (Some (f, r)) None other id apart by who a b); hold = w.hold; owner = w.owner; knows = w.knows; turn = w.turn; taking = w.taking; ended_below = w.ended_below; got = w.got }
-  fits_third (free r x) by p a b w = record { spot = w.spot; hold = w.hold; owner = w.owner ∙ sym (seat_third (Some (r.first, r.size)) None other id apart by r.owner a b); knows = w.knows; turn = w.turn; taking = w.taking; ended_below = w.ended_below; got = w.got }
+  fits_third (reserved f r who) by p a b w = record {
+    spot = w.spot ∙ sym (seat_third (Some (f, r)) None other id apart by who a b);
+    hold = w.hold;
+    owner = w.owner;
+    knows = w.knows;
+    turn = w.turn;
+    taking = w.taking;
+    ended_below = w.ended_below;
+    got = w.got;
+  }
+  fits_third (free r x) by p a b w = record {
+    spot = w.spot;
+    hold = w.hold;
+    owner = w.owner
+        ∙ sym (seat_third (Some (r.first, r.size)) None other id apart by r.owner a b);
+    knows = w.knows;
+    turn = w.turn;
+    taking = w.taking;
+    ended_below = w.ended_below;
+    got = w.got;
+  }
   fits_third (locked r who l qs got) by p a b w = record {
     spot = w.spot;
     hold = w.hold ∙ sym (seat_third (Some (r.first, r.size)) None other id apart by who a b);
@@ -296,27 +247,67 @@ module _ {T E : Type 0} (log : T → List E) (first_id : T → ℕ) (rec : E →
     ended_below = w.ended_below;
     got = w.got ∙ sym (seat_third got [] other id apart by who a b);
   }
-  fits_third (ended r x) by p a b w = record { spot = w.spot; hold = w.hold; owner = w.owner ∙ sym (seat_third (Some (r.first, r.size)) None other id apart by r.owner a b); knows = w.knows; turn = w.turn; taking = w.taking; ended_below = w.ended_below; got = w.got }
-  fits_third (taken r l) by p a b w = record { spot = w.spot; hold = w.hold; owner = w.owner; knows = w.knows; turn = w.turn; taking = w.taking ∙ sym (seat_third (Some (r.first, r.size)) None other id apart by r.owner a b); ended_below = w.ended_below; got = w.got }
+  fits_third (ended r x) by p a b w = record {
+    spot = w.spot;
+    hold = w.hold;
+    owner = w.owner
+        ∙ sym (seat_third (Some (r.first, r.size)) None other id apart by r.owner a b);
+    knows = w.knows;
+    turn = w.turn;
+    taking = w.taking;
+    ended_below = w.ended_below;
+    got = w.got;
+  }
+  fits_third (taken r l) by p a b w = record {
+    spot = w.spot;
+    hold = w.hold;
+    owner = w.owner;
+    knows = w.knows;
+    turn = w.turn;
+    taking = w.taking
+        ∙ sym (seat_third (Some (r.first, r.size)) None other id apart by r.owner a b);
+    ended_below = w.ended_below;
+    got = w.got;
+  }
   fits_third (retired f) by p a b w = w
 
   -- what both told
-  tells_both : (g : History E) (holder : ℕ → ℕ) (v w : View E) → IsInformed g holder id v → IsInformed g holder other w → IsInformed (ghost_now other id g) (λ a. seat_now other id (holder a)) id (joined_view v w)
+  tells_both : (g : History E) (holder : ℕ → ℕ) (v w : View E) → IsInformed g holder id v → IsInformed g holder other w
+      → IsInformed (ghost_now other id g) (λ a. seat_now other id (holder a)) id (joined_view v w)
   tells_both g holder v w a b s f =
       let is : part_of (joined_view v w) s ≡ joined_part (part_of v s) (part_of w s) = joined_is v.parts w.parts s in (
-        (λ n. ap (λ (z : Part E). numbers_of n (receipts_of_range f z.receipts)) is ∙ ap (numbers_of n) (at_append f (part_of v s).receipts (part_of w s).receipts) ∙ numbers_append n (receipts_of_range f (part_of v s).receipts) (receipts_of_range f (part_of w s).receipts)
+        (λ n. ap (λ (z : Part E). numbers_of n (receipts_of_range f z.receipts)) is ∙ ap (numbers_of n) (at_append f (part_of v s).receipts (part_of w s).receipts)
+            ∙ numbers_append n (receipts_of_range f (part_of v s).receipts) (receipts_of_range f (part_of w s).receipts)
             ∙ ap₂ (λ (x y : List ℕ). x ++ y) ((a s f).0 n) ((b s f).0 n) ∙ list_both (g.numbered s f n) other id apart (holder n)),
-        ap (λ (z : Part E). receipts_of_range f z.dropped) is ∙ at_append f (part_of v s).dropped (part_of w s).dropped ∙ ap₂ (λ (x y : List Receipt). x ++ y) (a s f).1 (b s f).1 ∙ list_both (g.lost s f) other id apart (g.ender s f),
+        ap (λ (z : Part E). receipts_of_range f z.dropped) is ∙ at_append f (part_of v s).dropped (part_of w s).dropped ∙ ap₂ (λ (x y : List Receipt). x ++ y) (a s f).1 (b s f).1
+            ∙ list_both (g.lost s f) other id apart (g.ender s f),
         (λ l h. ⊎_elim (λ t. (a s f).2 l t) (λ t. (b s f).2 l t) (knew_joined (part_of v s).last (part_of w s).last f l (subst (λ (z : Part E). HasLog z.last f l) is h))),
-        (λ h. ⊎_elim (λ t. let z = (a s f).3 t in (ap (seat_now other id) z.0 ∙ now_id other id apart, z.1)) (λ t. let z = (b s f).3 t in (ap (seat_now other id) z.0 ∙ now_other other id apart, z.1)) (has_joined f (part_of v s).destroyed (part_of w s).destroyed (subst (λ (z : Part E). HasNumber f z.destroyed) is h))),
+        (λ h. ⊎_elim (λ t. let z = (a s f).3 t in (ap (seat_now other id) z.0 ∙ now_id other id apart, z.1))
+            (λ t. let z = (b s f).3 t in (ap (seat_now other id) z.0 ∙ now_other other id apart, z.1))
+            (has_joined f (part_of v s).destroyed (part_of w s).destroyed (subst (λ (z : Part E). HasNumber f z.destroyed) is h))),
       )
 
+  -- the spent view knows nothing
   tells_spent : (g : History E) (holder : ℕ → ℕ) → IsInformed (ghost_now other id g) (λ a. seat_now other id (holder a)) other (spent_view)
-  tells_spent g holder s f = ((λ n. sym (seat_spent (g.numbered s f n) [] other id apart (holder n))), sym (seat_spent (g.lost s f) [] other id apart (g.ender s f)), λ l h. absurd h, λ h. absurd h)
+  tells_spent g holder s f = (
+    (λ n. sym (seat_spent (g.numbered s f n) [] other id apart (holder n))),
+    sym (seat_spent (g.lost s f) [] other id apart (g.ender s f)),
+    λ l h. absurd h,
+    λ h. absurd h,
+  )
 
-  tells_third : (g : History E) (holder : ℕ → ℕ) (by : ℕ) (u : View E) → by ≢ other → by ≢ id → IsInformed g holder by u → IsInformed (ghost_now other id g) (λ a. seat_now other id (holder a)) by u
-  tells_third g holder by u a b all s f = ((λ n. (all s f).0 n ∙ sym (seat_third (g.numbered s f n) [] other id apart by (holder n) a b)), (all s f).1 ∙ sym (seat_third (g.lost s f) [] other id apart by (g.ender s f) a b), (all s f).2, λ h. let z = (all s f).3 h in (ap (seat_now other id) z.0 ∙ now_third other id apart by a, z.1))
+  -- a third view knows as much as before
+  tells_third : (g : History E) (holder : ℕ → ℕ) (by : ℕ) (u : View E) → by ≢ other → by ≢ id → IsInformed g holder by u
+      → IsInformed (ghost_now other id g) (λ a. seat_now other id (holder a)) by u
+  tells_third g holder by u a b all s f = (
+    (λ n. (all s f).0 n ∙ sym (seat_third (g.numbered s f n) [] other id apart by (holder n) a b)),
+    (all s f).1
+        ∙ sym (seat_third (g.lost s f) [] other id apart by (g.ender s f) a b),
+    (all s f).2,
+    λ h. let z = (all s f).3 h in (ap (seat_now other id) z.0 ∙ now_third other id apart by a, z.1),
+  )
 
+  -- a node in nobody's hand stays as it is
   node_now : (k node who : ℕ) (ws : List ℕ) (p : Place) → p ≢ in_hand other → IsNode k ws node who p → IsNode k ws node (seat_now other id who) p
   node_now k node who ws idle away h = h
   node_now k node who ws (in_hand by) away h = ap (seat_now other id) h ∙ now_third other id apart by (λ e. away (ap in_hand e))
@@ -329,12 +320,14 @@ module _ {T E : Type 0} (log : T → List E) (first_id : T → ℕ) (rec : E →
   views_both vs x y P one two third = views_after (set vs id x) other y P two
       (λ by u ne e. views_after vs id x (λ by u. by ≢ other → P by u) (λ _. one) (λ by u ne' e' ne''. third by u ne'' ne' e') by u e ne)
 
+-- the first pass's own number has numbered as much as before
 counts_join : (sent : ℕ → ℕ) (ns ms : List ℕ) (n : ℕ) → HasNumber (own_number ns) ns → HasSent sent ns n → HasSent sent (ns ++ ms) n
 counts_join sent [] ms n has c = absurd has
 counts_join sent (a ∷ ns) ms n has c = c
 
--- C3
-pub join_keeps : {T E : Type 0} (log : T → List E) (first_id : T → ℕ) (rec : E → Option Receipt) (sizes : Sizes) (id other : ℕ) (v w : View E) → w.hand ≡ None → w.taken ≡ [] → HasNumber (own_number v.numbers) v.numbers
+-- joining a pass keeps the rule
+pub join_keeps : {T E : Type 0} (log : T → List E) (first_id : T → ℕ) (rec : E → Option Receipt) (sizes : Sizes) (id other : ℕ) (v w : View E) → w.hand ≡ None → w.taken ≡ []
+    → HasNumber (own_number v.numbers) v.numbers
     → Joins (IsKept log first_id rec sizes) id v other w (joined_view v w) (spent_view)
 join_keeps {T} {E} log first_id rec sizes id other v w no_hand no_list own_one s kept at apart at_other =
     let k = sizes.slots in let place = kept.place in let g : History E = kept.history in
@@ -352,9 +345,13 @@ join_keeps {T} {E} log first_id rec sizes id other v w no_hand no_list own_one s
       wide = kept.wide;
       rise = kept.rise;
       unsent = kept.unsent;
-      sents = views_both log first_id rec other id apart s.views x y (λ _ u. HasSent g.sent u.numbers u.sent) (counts_join g.sent v.numbers w.numbers v.sent own_one (kept.sents id v at)) tt (λ by u a b e. kept.sents by u e);
+      sents = views_both log first_id rec other id apart s.views x y (λ _ u. HasSent g.sent u.numbers u.sent) (counts_join g.sent v.numbers w.numbers v.sent own_one (kept.sents id v at)) tt
+          (λ by u a b e. kept.sents by u e);
       placed = λ m. subst (λ (z : ℕ). IsPlaced z (place m)) (sym long) (kept.placed m);
-      news = λ slot f. (subst (λ (z : ℕ). seat_now other id (g.ender slot f) < z) (sym long) (seat_low other id apart (g.ender slot f) (length s.views) below (kept.news slot f).0), (kept.news slot f).1);
+      news = λ slot f. (
+        subst (λ (z : ℕ). seat_now other id (g.ender slot f) < z) (sym long) (seat_low other id apart (g.ender slot f) (length s.views) below (kept.news slot f).0),
+        (kept.news slot f).1,
+      );
       at = (
         kept.at.0,
         (λ slot low. let was = kept.at.1 slot low in let o = was.1 in let ph : Phase T E = renamed other id was.0 in (
@@ -365,7 +362,8 @@ join_keeps {T} {E} log first_id rec sizes id other v w no_hand no_list own_one s
             sound = sound_now log first_id rec other id apart slot was.0 o.sound;
             seated = subst (IsSeated ph) (sym long) (seated_now log first_id rec other id apart (length s.views) was.0 below o.seated);
             fits = views_both log first_id rec other id apart s.views x y (λ by u. IsPart log ph by (part_of u slot))
-                (subst (IsPart log ph id) (sym (joined_is v.parts w.parts slot)) (fits_both log first_id rec other id apart was.0 (part_of v slot) (part_of w slot) (o.fits id v at) (o.fits other w at2)))
+                (subst (IsPart log ph id) (sym (joined_is v.parts w.parts slot))
+                (fits_both log first_id rec other id apart was.0 (part_of v slot) (part_of w slot) (o.fits id v at) (o.fits other w at2)))
                 (fits_spent log first_id rec other id apart was.0)
                 (λ by u a b e. fits_third log first_id rec other id apart was.0 by (part_of u slot) a b (o.fits by u e));
             chain = chained_now log first_id rec other id apart k place slot s.words was.0 o.chain;
@@ -377,18 +375,22 @@ join_keeps {T} {E} log first_id rec sizes id other v w no_hand no_list own_one s
           count = kept.at.2.count;
           holder = holder;
           seats = kept.at.2.seats ∙ sym long;
-          later = λ a more. ap (seat_now other id) (kept.at.2.later a more) ∙ now_third other id apart a (λ e. let b = there_below s.views other w at2 in let c = kept.at.2.seats in omega (arith, e, b, c, more));
+          later = λ a more. ap (seat_now other id) (kept.at.2.later a more) ∙ now_third other id apart a
+              (λ e. let b = there_below s.views other w at2 in let c = kept.at.2.seats in omega (arith, e, b, c, more));
           earlier = λ a less. seat_low other id apart (kept.at.2.holder a) kept.at.2.count (subst (λ (z : ℕ). id < z) (sym kept.at.2.seats) below) (kept.at.2.earlier a less);
           each = views_both log first_id rec other id apart s.views x y (IsNumbered (seat_now other id kept.at.2.opener) kept.at.2.count holder) (
             ap₂ either_of (kept.at.2.each id v at).0 (kept.at.2.each other w at2).0 ∙ seat_both kept.at.2.count other id apart kept.at.2.opener,
             each_both (λ n. (n < kept.at.2.count) × (holder n ≡ id)) v.numbers w.numbers
-                (each_map (λ n. (n < kept.at.2.count) × (kept.at.2.holder n ≡ id)) (λ n. (n < kept.at.2.count) × (holder n ≡ id)) v.numbers (λ n t. (t.0, ap (seat_now other id) t.1 ∙ now_id other id apart)) (kept.at.2.each id v at).1)
-                (each_map (λ n. (n < kept.at.2.count) × (kept.at.2.holder n ≡ other)) (λ n. (n < kept.at.2.count) × (holder n ≡ id)) w.numbers (λ n t. (t.0, ap (seat_now other id) t.1 ∙ now_other other id apart)) (kept.at.2.each other w at2).1),
+                (each_map (λ n. (n < kept.at.2.count) × (kept.at.2.holder n ≡ id)) (λ n. (n < kept.at.2.count) × (holder n ≡ id)) v.numbers
+                (λ n t. (t.0, ap (seat_now other id) t.1 ∙ now_id other id apart)) (kept.at.2.each id v at).1)
+                (each_map (λ n. (n < kept.at.2.count) × (kept.at.2.holder n ≡ other)) (λ n. (n < kept.at.2.count) × (holder n ≡ id)) w.numbers
+                (λ n t. (t.0, ap (seat_now other id) t.1 ∙ now_other other id apart)) (kept.at.2.each other w at2).1),
           )
               (sym (seat_spent (Some kept.at.2.count) None other id apart kept.at.2.opener), tt)
               (λ by u a b e. let t = kept.at.2.each by u e in (
                 t.0 ∙ sym (seat_third (Some kept.at.2.count) None other id apart by kept.at.2.opener a b),
-                each_map (λ n. (n < kept.at.2.count) × (kept.at.2.holder n ≡ by)) (λ n. (n < kept.at.2.count) × (holder n ≡ by)) u.numbers (λ n z. (z.0, ap (seat_now other id) z.1 ∙ now_third other id apart by a)) t.1,
+                each_map (λ n. (n < kept.at.2.count) × (kept.at.2.holder n ≡ by)) (λ n. (n < kept.at.2.count) × (holder n ≡ by)) u.numbers
+                    (λ n z. (z.0, ap (seat_now other id) z.1 ∙ now_third other id apart by a)) t.1,
               ));
         },
       );

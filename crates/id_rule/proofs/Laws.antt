@@ -10,7 +10,7 @@ use Rattle.id_rule.specs.Parts.{HasNumber, part_of, HasLog}
 use Rattle.id_rule.specs.Rule.{IsKept}
 use Rattle.id_rule.specs.declared.rule.Sizes.{Sizes}
 use Rattle.id_rule.specs.declared.view.View.{View}
-use Rattle.id_rule.proofs.Steps.{holds_it}
+use Rattle.id_rule.proofs.Lists.{holds_it}
 use Rattle.id_rule.proofs.Turns.{yes_if, bare}
 
 module _ {T E : Type 0} (log : T → List E) (first_id : T → ℕ) (rec : E → Option Receipt) where

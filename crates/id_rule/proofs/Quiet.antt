@@ -23,12 +23,14 @@ use Rattle.id_rule.specs.declared.rule.Sizes.{Sizes}
 use Rattle.id_rule.specs.declared.view.Queued.{Queued}
 use Rattle.id_rule.specs.declared.view.Receipt.{Receipt}
 use Rattle.id_rule.specs.declared.view.View.{View}
-use Rattle.id_rule.proofs.Steps.{index_is, look_keeps, reserve_keeps, give_up_keeps}
-use Rattle.id_rule.proofs.Turns.{locked_word, install_keeps, lock_keeps, unlock_keeps}
-use Rattle.id_rule.proofs.Endings.{end_keeps, take_keeps, give_back_keeps}
-use Rattle.id_rule.proofs.Taking.{head_is}
+use Rattle.id_rule.proofs.Collecting.{take_keeps, give_back_keeps}
+use Rattle.id_rule.proofs.Endings.{end_keeps}
 use Rattle.id_rule.proofs.Focus.{front_keeps}
+use Rattle.id_rule.proofs.Lists.{index_is}
 use Rattle.id_rule.proofs.Openings.{opening_kept, split_keeps}
+use Rattle.id_rule.proofs.Reserving.{look_keeps, reserve_keeps, give_up_keeps}
+use Rattle.id_rule.proofs.Taking.{head_is}
+use Rattle.id_rule.proofs.Turns.{locked_word, install_keeps, lock_keeps, unlock_keeps}
 
 -- a word that was put in, or the one that stood there
 set_holds : (P : ℕ → Type 0) (l : List ℕ) (i j n : ℕ) → P n → P (slice_index l j) → P (slice_index (set l i n) j)

@@ -71,7 +71,8 @@ AreLogged numbered logged = (a : ℕ) → IsReordered (numbered a) (numbers_of a
 -- of a locked range: each pass's receipts are, each once, those in the log at the lock and then, in the pass's order, those that the holder got since
 -- and those in the chain
 abbrev pub AreWaiting : (ℕ → List ℕ) → List Receipt → List Receipt → List Queued → Type 0
-AreWaiting numbered logged got qs = (a : ℕ) → (old : List ℕ) × (numbered a ≡ old ++ numbers_of a (got ++ reverse (receipts_of qs))) × IsReordered old (numbers_of a logged)
+AreWaiting numbered logged got qs = (a : ℕ) → (old : List ℕ) × (numbered a ≡ old ++ numbers_of a (got ++ reverse (receipts_of qs)))
+    × IsReordered old (numbers_of a logged)
 
 -- of a range that ended: each pass's receipts are, each once, those in the last log and those that were dropped
 abbrev pub AreSettled : (ℕ → List ℕ) → List Receipt → List Receipt → Type 0

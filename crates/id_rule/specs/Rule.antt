@@ -72,7 +72,8 @@ IsInformed {E} g holder by v = (slot first : ℕ) →
 
 module _ {T E : Type 0} (log : T → List E) (first_id : T → ℕ) (rec : E → Option Receipt) where
   -- a slot in its phase: its word, what lies in it, the passes' parts of it, and its chain
-  pub record IsSlot (n : ℕ) (place : ℕ → Place) (slot : ℕ) (words : List ℕ) (homes : List (maybe.Option (Option T))) (views : List (View E)) (ph : Phase T E) : Type 0 where
+  pub record IsSlot (n : ℕ) (place : ℕ → Place) (slot : ℕ) (words : List ℕ) (homes : List (maybe.Option (Option T))) (views : List (View E))
+      (ph : Phase T E) : Type 0 where
     pub word : get_elem? words slot ≡ some (slot_word ph)
     pub home_is : get_elem? homes slot ≡ some (home_value ph)
     pub sound : IsSound first_id slot ph
