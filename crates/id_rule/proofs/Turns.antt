@@ -89,7 +89,7 @@ module _ {T E : Type 0} (log : T → List E) (first_id : T → ℕ) (rec : E →
               got = fit.got ∙ sym (yes_if id id bare bare refl);
             }
             (tt, tt, ok.chain) (refl, refl, refl, refl) (let b = begins f kept.history i (receipts_in rec (log x)) told no_receipt in (b.0, b.1, b.2, tt)),
-        (x, refl, λ z. (view_with me.0 me.0.seen i (part_with_range (part_of me.0 i) (sym first z, sym size z) (log x)), (i, None) ∷ me.1)),
+        (x, refl, (λ z. (view_with me.0 me.0.seen i (part_with_range (part_of me.0 i) (sym first z, sym size z) (log x)), (i, None) ∷ me.1)), fit.hold),
       )
 
   -- a word that says free is a free slot's
@@ -165,6 +165,7 @@ module _ {T E : Type 0} (log : T → List E) (first_id : T → ℕ) (rec : E →
             (ok.sound.1 ∙ ap (make_id i) (sym first)),
             (λ l e. within_prefix (part_of me.0 i).logs r.first (log x) l fit.knows
                 (subst (λ (z : ℕ). HasLog (part_of me.0 i).logs z l) first e)),
+            fit.hold,
           )),
           λ miss. absurd (miss hit),
         ),

@@ -51,13 +51,14 @@ module _ {T E : Type 0} where
   abbrev pub IsGivingUp : Step (Option T) → Mine T E → ℕ → Mine T E → Type 0
   IsGivingUp s m n m' = m' ≡ (view_with m.0 m.0.seen s.word (part_with_spot (part_of m.0 s.word) None), m.1)
 
-  -- reserved to locked: the range begins with the log of the value that was announced, and the empty slot is with the pass
+  -- reserved to locked: the range begins with the log of the value that was announced, and the empty slot is with the pass, which had no Hold of it
   abbrev pub IsInstalling : (T → List E) → Step (Option T) → Mine T E → ℕ → Mine T E → Type 0
   IsInstalling log s m n m' = (x : T)
       × (s.said ≡ some (Some x))
       × (m' ≡ (view_with m.0 m.0.seen s.word (part_with_range (part_of m.0 s.word) (first_in s.second, range_in s.second) (log x)), (s.word, None) ∷ m.1))
+      × ((part_of m.0 s.word).hold ≡ None)
 
-  -- the slot is with the pass, with its range's value, whose log begins with each log of the range that the pass knows
+  -- the slot is with the pass, which had no Hold of it, with its range's value, whose log begins with each log of the range that the pass knows
   abbrev pub HasLocked : (T → List E) → (T → ℕ) → Step (Option T) → Mine T E → Mine T E → Type 0
   HasLocked log first_id s m m' = (x : T)
       × (m' ≡ (
@@ -66,6 +67,7 @@ module _ {T E : Type 0} where
       ))
       × (first_id x ≡ make_id s.word (first_in s.first))
       × ((l : List E) → HasLog (part_of m.0 s.word).logs (first_in s.first) l → IsPrefix l (log x))
+      × ((part_of m.0 s.word).hold ≡ None)
 
   -- free to locked
   abbrev pub IsLocking : (T → List E) → (T → ℕ) → Step (Option T) → Mine T E → ℕ → Mine T E → Type 0

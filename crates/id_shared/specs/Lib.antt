@@ -1,0 +1,5 @@
+pub mod Answers
+pub mod Opening
+pub mod Standing
+pub mod Steady
+pub mod Views
