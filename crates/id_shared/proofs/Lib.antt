@@ -1,3 +1,4 @@
+mod Grown
 mod Looks
 mod Steady
 mod Tables

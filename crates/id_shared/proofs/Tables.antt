@@ -41,3 +41,13 @@ pub same_slots : {E : Type 0} (t seat : TableId) (key sizes : Sizes) (ids : IdTa
     → IsIdTable t key sizes → q ≡ p → q.table ≡ seat → IsPassOf ids p → seat.slots ≡ ids.sizes.slots
 same_slots {E} t seat key sizes ids p q is fit view here own =
     ap (λ (z : TableId). z.slots) (same_table t seat sizes ids p q is view here own) ∙ fit.1 ∙ ap (λ (z : IdTable). z.sizes.slots) is
+
+-- what a step by a seat of the table asks
+pub at_seat : (t seat : TableId) (key sizes : Sizes) (ids : IdTable) (slot : ℕ) → record { table = t; sizes = sizes } ≡ ids → IsIdTable t key sizes
+    → seat ≡ ids.table → slot < seat.slots → (seat ≡ t) × (slot < key.slots) × (slot < t.words) × (seat.slots ≡ key.slots)
+at_seat t seat key sizes ids slot is fit own low =
+    let same : seat ≡ t = own ∙ sym (ap (λ (z : IdTable). z.table) is) in
+    let as_many : seat.slots ≡ key.slots = ap (λ (z : TableId). z.slots) same ∙ fit.1 ∙ ap (λ (z : Sizes). z.slots) (sym fit.0) in
+    let under : slot < t.slots = subst (λ (z : TableId). slot < z.slots) same low in
+    let slots = fit.1 in let words = fit.2 in
+    (same, subst (λ (z : ℕ). slot < z) as_many low, omega (arith, under, slots, words), as_many)

@@ -6,7 +6,9 @@ use Rattle.id_pool.specs.Ids as ids
 use Rattle.rpc_model.specs.Gone.{code_in, first_in, range_in, is_live_in, gone_by}
 use Rattle.id_rule.specs.Changes.{view_after_load}
 use Rattle.id_rule.specs.declared.view.Known.{Known}
+use Rattle.id_rule.specs.declared.view.Receipt.{Receipt}
 use Rattle.id_rule.specs.declared.view.View.{View}
+use Rattle.id_rule.specs.Receipts.{IsGrown, IsGrownWithout}
 use Rattle.id_rule.specs.Parts.{part_of, HasLog, AreAll}
 use Rattle.id_rule.specs.Words.{packed_word}
 use Rattle.id_shared.specs.declared.answers.Reserve.{Reserve}
@@ -163,3 +165,12 @@ IsGoneEnd lock.NoSlot = ⊥
 -- the id names a slot of the table, and the pass has seen its version end
 abbrev pub HasSeenEnd : {E : Type 0} → ℕ → ℕ → Standing E → Type 0
 HasSeenEnd slots id p = (slot : ℕ) × IsSlotOf slots id slot × (ids.version_of id < (part_of p.view slot).ended_below)
+
+module _ {E : Type 0} (rec : E → Option Receipt) where
+  -- the log begins with the log at the lock, and has each receipt that was handed out since, once
+  abbrev pub HasGrown : Standing E → Claim → List E → Type 0
+  HasGrown p c log = (l : List E) → (part_of p.view c.slot).turn ≡ Some l → IsGrown rec l log (part_of p.view c.slot).got
+
+  -- the log begins with the log at the lock; these receipts, handed out since, are what it leaves out of them
+  abbrev pub HasGrownWithout : Standing E → Claim → List E → List Receipt → Type 0
+  HasGrownWithout p c log out = (l : List E) → (part_of p.view c.slot).turn ≡ Some l → IsGrownWithout rec l log (part_of p.view c.slot).got out

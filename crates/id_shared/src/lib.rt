@@ -9,6 +9,7 @@
 mod answers;
 mod claims;
 mod ids;
+mod locking;
 mod pass;
 mod reserving;
 
