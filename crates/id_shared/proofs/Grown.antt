@@ -18,3 +18,9 @@ module _ {E : Type 0} (rec : E → Option Receipt) (p : Standing E) (c k : Claim
       → (l : List E) → (part_of v k.slot).turn ≡ Some l → IsGrownWithout rec l log (part_of v k.slot).got out
   grown_without_inside out has = subst (λ (z : Claim × View E). (l : List E) → (part_of z.1 z.0.slot).turn ≡ Some l → IsGrownWithout rec l log (part_of z.1 z.0.slot).got out)
       (λ y. (sym claim y, sym view y)) has
+
+  -- and back
+  pub grown_without_outside : (out : List Receipt) → ((l : List E) → (part_of v k.slot).turn ≡ Some l → IsGrownWithout rec l log (part_of v k.slot).got out)
+      → HasGrownWithout rec p c log out
+  grown_without_outside out has = subst (λ (z : Claim × View E). (l : List E) → (part_of z.1 z.0.slot).turn ≡ Some l → IsGrownWithout rec l log (part_of z.1 z.0.slot).got out)
+      (λ y. (claim y, view y)) has

@@ -1,4 +1,5 @@
 mod Grown
 mod Looks
+mod Openings
 mod Steady
 mod Tables

@@ -121,6 +121,23 @@ module _ {T E : Type 0} (slots i : ℕ) (v w : View E) (p : Part E) (moves : Has
     roomy = st.roomy;
   }
 
+module _ {T E : Type 0} (slots : ℕ) (v w : View E) (same : w.parts ≡ v.parts) where
+  -- slots that are out stay held where no part changes
+  held_parts : (c : List (ℕ × Option T)) → AreHeld slots v c → AreHeld slots w c
+  held_parts [] all = tt
+  held_parts (x ∷ c) all = (all.0, (all.1.0, all.1.1, ap (λ ps. (part_at ps x.0).hold) same ∙ all.1.2), all.2, held_parts c all.3)
+
+  -- a step that changes no part
+  pub steady_parts : (c : List (ℕ × Option T)) (room : ℕ) → w.hand ≡ None → w.taken ≡ [] → IsSteady slots (v, c) room → IsSteady slots (w, c) room
+  steady_parts c room hand taken st = record {
+    hand = hand;
+    taken = taken;
+    low = λ slot more. subst (λ ps. IsUnclaimed (part_at ps slot)) (sym same) (st.low slot more);
+    held = held_parts c st.held;
+    out = λ slot f r has. st.out slot f r (ap (λ ps. (part_at ps slot).hold) (sym same) ∙ has);
+    roomy = st.roomy;
+  }
+
 module _ {T E : Type 0} (t t' : TableId) (i room : ℕ) (me me' : Me (Option T) (View E)) (same : t' ≡ t) (less : i < t.slots) (st : IsSteady t.slots me room) where
   -- a step that changes a part, and leaves its Hold
   pub steady_part : (seen : List (ℕ × ℕ)) (p : Part E) → p.hold ≡ (part_of me.0 i).hold → me' ≡ (view_with me.0 seen i p, me.1) → IsSteady t'.slots me' room
@@ -154,3 +171,9 @@ module _ {T E : Type 0} (slots room slot : ℕ) (me : Me (Option T) (View E)) (s
   -- an Owner is of a slot of the table
   pub owner_is_low : (part_of me.0 slot).owner ≡ Some r → slot < slots
   owner_is_low has = dite (dec_le slots slot) (λ more. absurd (none-some r (sym (st.low slot more).2 ∙ has))) (λ less. omega (arith, less))
+
+-- a step that changes no part, and no table
+pub steady_split : {T E : Type 0} (t t' : TableId) (room : ℕ) (me me' : Me (Option T) (View E)) (w : View E) → t' ≡ t → me' ≡ (w, me.1) → w.parts ≡ me.0.parts → w.hand ≡ None → w.taken ≡ []
+    → IsSteady t.slots me room → IsSteady t'.slots me' room
+steady_split {T} {E} t t' room me me' w same is parts hand taken st = subst (λ (z : TableId × Me (Option T) (View E)). IsSteady z.0.slots z.1 room) (λ y. (sym same y, sym is y))
+    (steady_parts t.slots me.0 w parts me.1 room hand taken st)

@@ -8,8 +8,10 @@
 
 mod answers;
 mod claims;
+mod ending;
 mod ids;
 mod locking;
+mod opening;
 mod pass;
 mod reserving;
 
