@@ -3,3 +3,4 @@ mod Looks
 mod Openings
 mod Steady
 mod Tables
+mod Waits

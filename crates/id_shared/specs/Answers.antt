@@ -107,7 +107,8 @@ module _ {T E : Type 0} (log : T → List E) (first_id : T → ℕ) where
       × IsLocked p.view word c x
       × (q ≡ with_view p (view_with_hold (view_after_load p.view c.slot word) c (log x))))
   IsTried slots id p (try.Held word) q = (slot : ℕ) × IsSlotOf slots id slot × IsHeldFor word id × (q ≡ with_view p (view_after_load p.view slot word))
-  IsTried slots id p (try.Gone word) q = (slot : ℕ) × IsSlotOf slots id slot × (gone_by word id ≡ true) × (q ≡ with_view p (view_after_load p.view slot word))
+  IsTried slots id p (try.Gone word) q = (slot : ℕ) × IsSlotOf slots id slot × (gone_by word id ≡ true)
+      × (q ≡ with_view p (view_after_load p.view slot word))
   IsTried slots id p try.NoSlot q = HasNoSlot slots id × (q ≡ p)
   IsTried slots id p (try.Again word found) q = (slot : ℕ)
       × IsSlotOf slots id slot
@@ -139,6 +140,12 @@ module _ {T E : Type 0} (log : T → List E) (first_id : T → ℕ) where
   IsCollected c p (collect.NotYet same word) q = (same ≡ c)
       × (word ≢ packed_word c.first c.size 4 0)
       × (q ≡ with_view p (view_after_load p.view c.slot word))
+
+module _ {T E : Type 0} (log : T → List E) (first_id : T → ℕ) where
+  -- `join`, after loads of the owner's slot that found these words
+  abbrev pub IsJoined : Claim → Standing E → T → Standing E → Type 0
+  IsJoined c p x q = IsLastValue log first_id p.view c x
+      × ((words : List ℕ) × (q ≡ with_view p (view_after_collect (view_after_loads p.view (words_of c.slot words)) c (log x))))
 
 -- `join_seen`, after loads of the id's slot that found these words
 abbrev pub IsJoinSeen : {E : Type 0} → ℕ → ℕ → Standing E → Option ℕ → Standing E → Type 0

@@ -9,11 +9,13 @@
 mod answers;
 mod claims;
 mod ending;
+pub mod halves;
 mod ids;
 mod locking;
 mod opening;
 mod pass;
 mod reserving;
+mod waiting;
 
 pub use answers::{CollectEnd, LockEnd, Reserve, TryLock, UnlockEnd};
 pub use claims::{Hold, Owner, Spot};

@@ -48,12 +48,7 @@ impl<T: Tenant> Ids<T> {
     }
 
     // All passes, each at its number.
-    fn deal(
-        &self,
-        alloc: Global,
-        mut root: Pass<T>,
-        passes: u32,
-    ) -> Result<Vec<Pass<T>>, NoMemory>
+    fn deal(&self, alloc: Global, mut root: Pass<T>, passes: u32) -> Result<Vec<Pass<T>>, NoMemory>
         requires passes { 1 ≤ passes }
         requires root { IsRoot self.now 1 root }
         ensures passes { IfOk result (λ ps. (length ps.items ≡ passes) × AreOpened self.now 0 ps.items) }
