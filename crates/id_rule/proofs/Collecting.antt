@@ -22,7 +22,7 @@ use Rattle.id_rule.specs.declared.rule.Sizes.{Sizes}
 use Rattle.id_rule.specs.declared.view.Known.{Known}
 use Rattle.id_rule.specs.declared.view.Part.{Part}
 use Rattle.id_rule.specs.declared.view.View.{View}
-use Rattle.id_rule.proofs.Laws.{all_accounted}
+use Rattle.id_rule.proofs.Accounts.{all_accounted}
 use Rattle.id_rule.proofs.Lists.{views_after, part_here, part_else, set_there, index_is}
 use Rattle.id_rule.proofs.Logs.{learned_within, within_prefix}
 use Rattle.id_rule.proofs.Reserving.{load_kept}

@@ -1,10 +1,10 @@
+pub mod Accounts
 pub mod Chains
 pub mod Collecting
 pub mod Ended
 pub mod Endings
 pub mod Focus
 pub mod Joins
-pub mod Laws
 pub mod Lists
 pub mod Logs
 pub mod Nodes
@@ -15,6 +15,7 @@ pub mod Quiet
 pub mod Receipts
 pub mod Reserving
 pub mod Seats
+pub mod Single
 pub mod Steps
 pub mod Taking
 pub mod Turns

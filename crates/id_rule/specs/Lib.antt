@@ -1,5 +1,6 @@
 pub mod Carried
 pub mod Changes
+pub mod Laws
 pub mod Nodes
 pub mod Parts
 pub mod Phases

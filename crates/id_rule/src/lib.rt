@@ -5,6 +5,7 @@
 //! step has a `Play` that says what it tells its pass.
 #![tactic(auto)]
 
+pub mod laws;
 mod plays;
 mod rule;
 mod tenant;
