@@ -188,7 +188,10 @@ module _ {T E : Type 0} (log : T → List E) (first_id : T → ℕ) (rec : E →
               got = fit.got;
             } ok.chain (refl, refl, refl, refl) (subst (λ p. IsTold log rec kept.history i p) ph k.2),
         (
-          (λ _. λ z. (view_with me.0 me.0.seen i (part_with_spot (part_of me.0 i) (Some (sym from z, sym (ap range_in is ∙ range_is f r 1 0 (omega arith) (omega arith) (omega arith)) z))), me.1)),
+          (λ _. (
+            (λ z. (view_with me.0 me.0.seen i (part_with_spot (part_of me.0 i) (Some (sym from z, sym (ap range_in is ∙ range_is f r 1 0 (omega arith) (omega arith) (omega arith)) z))), me.1)),
+            fit.spot,
+          )),
           λ miss. absurd (miss hit),
         ),
       )

@@ -1,4 +1,5 @@
 mod Grown
+mod Loads
 mod Looks
 mod Openings
 mod Steady

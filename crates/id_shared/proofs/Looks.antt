@@ -1,11 +1,13 @@
 -- What holds while `reserve` looks for a vacant slot.
-use Rattle.std.proofs.Common.{◌≡◌, ◌≢◌, ℕ, ◌+◌, ◌<◌, ◌≤◌, List, [], ◌∷◌, ◌++◌, length, length-append, refl, sym, ap, ◌∙◌, subst, arith}
+use Rattle.std.proofs.Common.{◌≡◌, ◌≢◌, ℕ, ◌+◌, ◌<◌, ◌≤◌, List, [], ◌∷◌, ◌++◌, length, length-append, sym, ap, ◌∙◌, subst, arith}
 use Rattle.std.specs.Prelude.{◌==◌, true}
 use Rattle.std.proofs.lemmas.Bool.Decides.{nat_tests}
 use Rattle.id_rule.specs.Changes.{view_after_load}
 use Rattle.id_rule.specs.declared.view.View.{View}
-use Rattle.id_rule.specs.Parts.{AreAll}
+use Rattle.id_rule.specs.Parts.{AreAll, part_of}
 use Rattle.rpc_model.specs.Gone.{code_in}
+use Rattle.id_shared.proofs.Loads.{loads_more, loads_keep}
+use Rattle.id_rule.specs.declared.view.Part.{Part}
 use Rattle.id_shared.specs.Answers.{IsSize, IsReservedFrom, IsReserved}
 use Rattle.id_shared.specs.declared.answers.Reserve.{Reserve}
 use Rattle.id_shared.specs.declared.answers.Reserve.TheVariants as reserve
@@ -27,11 +29,6 @@ all_more P [] n all one = (one, tt)
 all_more P (m ∷ ns) n all one = (all.0, all_more P ns n all.1 one)
 
 module _ {E : Type 0} where
-  -- loads one after the other
-  pub loads_more : (v : View E) (xs ys : List (ℕ × ℕ)) → view_after_loads v (xs ++ ys) ≡ view_after_loads (view_after_loads v xs) ys
-  loads_more v [] ys = refl
-  loads_more v (x ∷ xs) ys = loads_more (view_after_load v x.0 x.1) xs ys
-
   -- the slots before this one were looked at, and none was vacant
   pub record IsLooking (ids : IdTable) (before : View E) (slot : ℕ) (p : Standing E) : Type 0 where
     pub own : IsPassOf ids p
@@ -71,6 +68,7 @@ module _ {E : Type 0} where
         (word, (subst (λ (z : ℕ). z < slots) here low, vacant, (l.words, same ∙ words, long ∙ here, full)), a.1),
         a.2,
         ap (λ z. z.view) a.3 ∙ ap (λ v. view_with_spot v c) (looked_more p.view slot word l k long was view words ∙ ap (λ ns. view_after_loads p.view (words_from 0 ns)) (sym same)),
+        sym (ap (λ (z : Part E). z.spot) (loads_keep p.view (words_from 0 k.words) c.slot).1) ∙ ap (λ v. (part_of v c.slot).spot) (sym (looked_more p.view slot word l k long was view words)) ∙ ap (λ (z : ℕ). (part_of k.view z).spot) (a.0) ∙ a.4,
       )
   reserved_at slots range slot word p l k q reserve.Full size low was long full view words vacant a = absurd a
   reserved_at slots range slot word p l k q (reserve.Again old found) size low was long full view words vacant a =

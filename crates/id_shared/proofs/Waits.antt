@@ -1,23 +1,18 @@
 -- What holds while a call waits: the pass has loaded the id's slot some times.
-use Rattle.std.proofs.Common.{◌≡◌, ℕ, ◌≤◌, List, [], ◌∷◌, ◌++◌, refl, sym, ap, ◌∙◌, subst, arith, Some}
-use Rattle.std.specs.Prelude.{max, true}
+use Rattle.std.proofs.Common.{◌≡◌, ℕ, List, [], ◌∷◌, ◌++◌, refl, sym, ap, ◌∙◌, subst, arith, Some}
+use Rattle.std.specs.Prelude.{true}
 use Rattle.std.proofs.lemmas.Option.{same_Some}
-use mathlib.Core.Logic.{dite}
-use native.Mathlib.Decide.{ℕ_discrete}
 use Rattle.rpc_model.specs.Gone.{gone_by}
 use Rattle.id_rule.specs.Changes.{view_after_load, part_with_ended_below}
-use Rattle.id_rule.specs.Words.{ended_below_in}
 use Rattle.id_rule.specs.declared.view.Part.{Part}
-use Rattle.id_rule.specs.declared.view.View.{View}
 use Rattle.id_rule.specs.Parts.{part_of, HasLog}
-use Rattle.id_rule.proofs.Lists.{part_here, part_else}
 use Rattle.id_shared.specs.Answers.{IsSlotOf, HasNoSlot, IsTried, IsLockEnd, HasSeenEnd, IsCollected, IsJoined, IsJoinSeen}
 use Rattle.id_shared.specs.declared.answers.TryLock.TheVariants as try
 use Rattle.id_shared.specs.declared.answers.LockEnd.TheVariants as lock
 use Rattle.id_shared.specs.declared.answers.CollectEnd.TheVariants as collect
 use Rattle.id_shared.specs.Standing.{Claim, Standing, HasOwner}
 use Rattle.id_shared.specs.Views.{words_of, with_view, view_after_loads, view_with_hold, view_after_collect}
-use Rattle.id_shared.proofs.Looks.{loads_more}
+use Rattle.id_shared.proofs.Loads.{loads_more, loads_keep}
 
 -- one word more of the slot
 words_more : (slot n : ℕ) (ns : List ℕ) → words_of slot (ns ++ n ∷ []) ≡ words_of slot ns ++ (slot, n) ∷ []
@@ -25,26 +20,6 @@ words_more slot n [] = refl
 words_more slot n (m ∷ ns) = ap (λ z. (slot, m) ∷ z) (words_more slot n ns)
 
 module _ {E : Type 0} where
-  -- a load leaves what a pass has, and what it knows but for what has ended
-  one_load : (v : View E) (s n slot : ℕ) → (g : ℕ) × (part_of (view_after_load v s n) slot ≡ part_with_ended_below (part_of v slot) g) × ((part_of v slot).ended_below ≤ g)
-  one_load v s n slot = let p = part_of v s in dite (ℕ_discrete slot s)
-      (λ e. (
-        max p.ended_below (ended_below_in n),
-        ap (part_of (view_after_load v s n)) e ∙ part_here v.parts s (part_with_ended_below p (max p.ended_below (ended_below_in n)))
-            ∙ ap (λ (z : ℕ). part_with_ended_below (part_of v z) (max p.ended_below (ended_below_in n))) (sym e),
-        (let same : (part_of v slot).ended_below ≡ p.ended_below = ap (λ (z : ℕ). (part_of v z).ended_below) e in omega (arith, same)),
-      ))
-      (λ ne. ((part_of v slot).ended_below, part_else v.parts s slot (part_with_ended_below p (max p.ended_below (ended_below_in n))) ne, omega arith))
-
-  -- so do several
-  pub loads_keep : (v : View E) (xs : List (ℕ × ℕ)) (slot : ℕ) → (g : ℕ) × (part_of (view_after_loads v xs) slot ≡ part_with_ended_below (part_of v slot) g) × ((part_of v slot).ended_below ≤ g)
-  loads_keep v [] slot = ((part_of v slot).ended_below, refl, omega arith)
-  loads_keep v (x ∷ xs) slot =
-      let one = one_load v x.0 x.1 slot in let more = loads_keep (view_after_load v x.0 x.1) xs slot in
-      let low : (part_of (view_after_load v x.0 x.1) slot).ended_below ≤ more.0 = more.2 in
-      let is : (part_of (view_after_load v x.0 x.1) slot).ended_below ≡ one.0 = ap (λ (z : Part E). z.ended_below) one.1 in
-      (more.0, more.1 ∙ ap (λ (z : Part E). part_with_ended_below z more.0) one.1, omega (arith, low, is, one.2))
-
   -- the pass has loaded the id's slot some times, and nothing where the id names none
   pub record IsWaiting (slots id : ℕ) (p q : Standing E) : Type 0 where
     pub here : (slot : ℕ) → IsSlotOf slots id slot → (words : List ℕ) × (q ≡ with_view p (view_after_loads p.view (words_of slot words)))

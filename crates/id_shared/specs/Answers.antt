@@ -63,6 +63,7 @@ module _ {E : Type 0} where
       × (c.first ≡ first_in word)
       × (c.size ≡ range)
       × (q ≡ with_view p (view_with_spot p.view c))
+      × ((part_of p.view slot).spot ≡ None)
   IsReservedFrom slot word range p reserve.Full q = ⊥
   IsReservedFrom slot word range p (reserve.Again old found) q = (old ≡ word) × (found ≢ word) × (q ≡ with_view p (view_after_load p.view slot found))
   IsReservedFrom slot word range p reserve.BadRange q = ⊥
@@ -73,6 +74,7 @@ module _ {E : Type 0} where
       × ((word : ℕ) × IsFirstVacant slots c.slot word q.words × (c.first ≡ first_in word))
       × (c.size ≡ range)
       × (q.view ≡ view_with_spot (view_after_loads p.view (words_from 0 q.words)) c)
+      × ((part_of p.view c.slot).spot ≡ None)
   IsReserved slots range p reserve.Full q = IsSize range
       × (length q.words ≡ slots)
       × AreAll (λ n. code_in n ≢ 0) q.words

@@ -1,4 +1,5 @@
 pub mod Answers
+pub mod Claims
 pub mod Opening
 pub mod Standing
 pub mod Steady

@@ -35,4 +35,4 @@ invariant_of-pass-2 g c =
         c.requires.slot in
     let e = c.compare_exchange-found.ensures in
     steady_part s.table_id c.compare_exchange-found.new.seat.table_id c.args.slot _ s.me c.compare_exchange-found.new.seat.me e.0 at.3 c.pass.invariant s.me.0.seen
-    (part_with_spot (part_of s.me.0 c.args.slot) (Some (first_in c.args.word, range_in c.pack-new.result))) refl (e.2.0 c.if-found-word.false)
+    (part_with_spot (part_of s.me.0 c.args.slot) (Some (first_in c.args.word, range_in c.pack-new.result))) refl (e.2.0 c.if-found-word.false).0
