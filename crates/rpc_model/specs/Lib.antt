@@ -12,6 +12,7 @@ pub mod ChannelLines
 pub mod CallLines
 pub mod Lines
 pub mod Script
+pub mod Gone
 pub mod Fits
 pub mod Moments
 pub mod Early

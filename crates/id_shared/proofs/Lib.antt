@@ -1,0 +1,7 @@
+mod Grown
+mod Loads
+mod Looks
+mod Openings
+mod Steady
+mod Tables
+mod Waits
