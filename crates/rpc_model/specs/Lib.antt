@@ -12,3 +12,5 @@ pub mod Fits
 pub mod Moments
 pub mod Early
 pub mod Laws
+pub mod Texts
+pub mod Gone
