@@ -139,7 +139,7 @@ fn an_inlog_keeps_frames_and_losses_in_order(rt: HostRuntime) -> Result<(), Fail
         assert_eq!(rt; log.note_loss(7 + place, 1009, Fate::Dropped(1))?, place);
         assert_eq!(rt;
             log.note(
-                9 + frames,
+                8 + frames,
                 0,
                 Bytes::of(Vec::from_slice(alloc, b"hi")?),
                 Fate::Stray
