@@ -123,19 +123,26 @@ text_of (l ∷ ls) = line_text l ++ codes "\n" ++ text_of ls
 abbrev pub call_lines : CallLog → List Line
 call_lines c = call c.call c.first c.width c.lane c.moment ∷ map entry c.log
 
+-- the wire of a server, with its lists
+abbrev pub one_wire : ℕ → WireLog → List Line
+one_wire server w = wire server w.how ∷ (map out w.out ++ map came w.came ++ map loss w.losses)
+
 -- the wires from this number on
 abbrev pub wire_lines : ℕ → List WireLog → List Line
 wire_lines server [] = []
-wire_lines server (w ∷ ws) = wire server w.how ∷ (map out w.out ++ map came w.came ++ map loss w.losses ++ wire_lines (server + 1) ws)
+wire_lines server (w ∷ ws) = one_wire server w ++ wire_lines (server + 1) ws
+
+abbrev pub one_lane : ℕ → LaneLog → List Line
+one_lane n l = lane n ∷ map cancel l.cancels
 
 -- the lanes from this number on
 abbrev pub lane_lines : ℕ → List LaneLog → List Line
 lane_lines n [] = []
-lane_lines n (l ∷ ls) = lane n ∷ (map cancel l.cancels ++ lane_lines (n + 1) ls)
+lane_lines n (l ∷ ls) = one_lane n l ++ lane_lines (n + 1) ls
 
 -- the calls, the wires, the fired marks, the lanes
 unfoldable pub journal_lines : Journal → List Line
-journal_lines j = flat_map call_lines j.calls ++ wire_lines 0 j.wires ++ timer ∷ (map mark j.marks ++ lane_lines 0 j.lanes)
+journal_lines j = flat_map call_lines j.calls ++ wire_lines 0 j.wires ++ (timer ∷ []) ++ map mark j.marks ++ lane_lines 0 j.lanes
 
 unfoldable pub journal_text : Journal → List ℕ
 journal_text j = text_of (journal_lines j)
