@@ -1,4 +1,4 @@
-ghost use Rattle.std.specs.Prelude.{◌≡◌, ◌≤◌, ◌++◌, IfOk, OnOk, OnErr, All};
+ghost use Rattle.std.specs.Prelude.{◌≡◌, ◌≤◌, ◌++◌, ◌↔◌, IfOk, OnOk, OnErr, IsTrue, All};
 ghost use Rattle.echo_server.specs.Answers.{IsDirection, reply_with, error_answer, echo_answer, no_answer, directed, request_answer, direction, turned, answer_of, after};
 
 use crate::answer::Answer;
@@ -76,6 +76,22 @@ impl Echo {
         let answer = request_answered(alloc, self.direction(), request, frame)?;
         self.turn();
         Ok(answer)
+    }
+}
+
+/// Whether a server may have these directions, as `Echo::open` asks: each code of an `Err` is 1 to 65,535.
+pub fn are_directions(words: &[Direction]) -> bool
+    ensures { IsTrue result ↔ All IsDirection words.now }
+{
+    words.iter().all(|word| is_direction(word))
+}
+
+fn is_direction(word: &Direction) -> bool
+    ensures { IsTrue result ↔ IsDirection word.now }
+{
+    match word {
+        Direction::Err(code) => 1 <= *code && *code <= 65_535,
+        _ => true,
     }
 }
 

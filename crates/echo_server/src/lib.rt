@@ -14,7 +14,7 @@ mod serving;
 mod writing;
 
 pub use answer::Answer;
-pub use echo::{Echo, METHOD, SERVICE};
+pub use echo::{Echo, METHOD, SERVICE, are_directions};
 pub use law::requests_follow_directions_in_turn;
 pub use piece::{Brought, read_piece};
 pub use served::Served;

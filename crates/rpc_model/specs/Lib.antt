@@ -17,3 +17,4 @@ pub mod Fits
 pub mod Moments
 pub mod Early
 pub mod Laws
+pub mod Texts

@@ -8,7 +8,9 @@
 mod chan;
 mod codes;
 mod direction;
+mod entry;
 mod event;
+mod journal;
 mod laws;
 mod limits;
 mod script;
@@ -22,7 +24,9 @@ pub use codes::{
     ETOOMANYFAILS, retriable,
 };
 pub use direction::Direction;
+pub use entry::{Entry, Fate, Origin};
 pub use event::{End, Event};
+pub use journal::{CallLog, Came, CancelNote, Fired, How, Journal, LaneLog, LossNote, WireLog};
 pub use laws::{
     attempts_are_few, due_marks_may_be_taken_at_once, ends_stay, one_attempt,
     replaced_attempts_do_nothing, sends_are_attempts, success_needs_a_live_reply, told_once,
