@@ -11,12 +11,13 @@ use Rattle.std.proofs.lemmas.List.Elements.{All-nil, All-push}
 use Rattle.std.proofs.lemmas.List.Sums.{sum_by_push, sum_by-cons}
 use Rattle.std.proofs.lemmas.Map.Keys.{IsDistinct-push}
 use Rattle.rpc_model.specs.declared.chan.Chan.{Chan}
+use Rattle.rpc_model.specs.declared.script.Serve.{Serve}
 use Rattle.rpc_model.specs.declared.script.Act.{Act}
 use Rattle.rpc_model.specs.declared.script.Act.TheVariants.{Call, Cancel, Reply, Lose, Tick, Join}
 use Rattle.rpc_model.specs.declared.limits.TheConstants.{ATTEMPT_WEIGHT}
 use Rattle.rpc_model.specs.Plan.{Plan, chan_plan, plan}
 use Rattle.rpc_model.specs.Before.{call_of, calls_of, chan_of, is_event, event_count, attempts_of, call_weight, weight_of, total_weight}
-use Rattle.rpc_model.specs.Fits.{IsMoment, IsAct, IsChan, begins, called}
+use Rattle.rpc_model.specs.Fits.{IsMoment, IsAct, IsChan, IsServe, begins, called}
 use Rattle.call_script.specs.Within.{IsWithin}
 
 -- The calls that lines begin, after one more line.
@@ -78,7 +79,7 @@ same-total chans c (act ∷ acts) fit =
     ∙ sym (sum_by-cons (weight_of chans) act acts)
 
 -- Before the first line.
-pub within_nothing : IsWithin None [] [] [] [] [] 0 0
+pub within_nothing : IsWithin None [] [] [] [] [] [] 0 0
 unfolding IsDistinct
 within_nothing = record {
   few_slots = tt;
@@ -95,6 +96,7 @@ within_nothing = record {
   fit = All-nil (IsAct 0);
   calls_differ = tt;
   channels = All-nil (IsChan 0);
+  serves_fit = All-nil (IsServe 0);
 }
 
 event-weight : (chans : List Chan) (act : Act) → call_of act ≡ [] → weight_of chans act ≡ 0
@@ -123,10 +125,10 @@ later-act chans more (Tick at) h fit = tt
 later-act chans more (Join call) h fit = tt
 
 -- One more channel.
-pub within_channel : (slots : Option ℕ) (names servers : List (List ℕ)) (name : List ℕ) (chans : List Chan) (c : Chan) (acts : List Act) (calls : List (ℕ × ℕ)) (events weight : ℕ)
-    → IsWithin slots names servers chans acts calls events weight → length names < 1000 → IsChan (length servers) c
-    → IsWithin slots (names ++ name ∷ []) servers (chans ++ c ∷ []) acts calls events weight
-within_channel slots names servers name chans c acts calls events weight w room channel = record {
+pub within_channel : (slots : Option ℕ) (names servers : List (List ℕ)) (name : List ℕ) (chans : List Chan) (c : Chan) (serves : List Serve) (acts : List Act) (calls : List (ℕ × ℕ)) (events weight : ℕ)
+    → IsWithin slots names servers chans serves acts calls events weight → length names < 1000 → IsChan (length servers) c
+    → IsWithin slots (names ++ name ∷ []) servers (chans ++ c ∷ []) serves acts calls events weight
+within_channel slots names servers name chans c serves acts calls events weight w room channel = record {
   few_slots = w.few_slots;
   few_channels = simp length-append (omega arith);
   named = let n = w.named in simp length-append (omega (arith, n));
@@ -141,13 +143,14 @@ within_channel slots names servers name chans c acts calls events weight w room 
   fit = λ k d h. later-act (length chans) (length (chans ++ c ∷ [])) _ (simp length-append (omega arith)) (w.fit k d h);
   calls_differ = w.calls_differ;
   channels = All-push (IsChan (length servers)) chans c w.channels channel;
+  serves_fit = w.serves_fit;
 }
 
 -- One more line that begins no call.
-pub within_event : (slots : Option ℕ) (names servers : List (List ℕ)) (chans : List Chan) (acts : List Act) (act : Act) (calls : List (ℕ × ℕ)) (events weight : ℕ)
-    → IsWithin slots names servers chans acts calls events weight → events < 400000 → IsMoment act → IsAct (length chans) act → call_of act ≡ []
-    → IsWithin slots names servers chans (acts ++ act ∷ []) calls (events + 1) weight
-within_event slots names servers chans acts act calls events weight w room moment fit event =
+pub within_event : (slots : Option ℕ) (names servers : List (List ℕ)) (chans : List Chan) (serves : List Serve) (acts : List Act) (act : Act) (calls : List (ℕ × ℕ)) (events weight : ℕ)
+    → IsWithin slots names servers chans serves acts calls events weight → events < 400000 → IsMoment act → IsAct (length chans) act → call_of act ≡ []
+    → IsWithin slots names servers chans serves (acts ++ act ∷ []) calls (events + 1) weight
+within_event slots names servers chans serves acts act calls events weight w room moment fit event =
     let same : calls_of (acts ++ act ∷ []) ≡ calls_of acts = calls_after acts act ∙ rw event (append-nil (calls_of acts)) in
     record {
       few_slots = w.few_slots;
@@ -164,14 +167,15 @@ within_event slots names servers chans acts act calls events weight w room momen
       fit = All-push (IsAct (length chans)) acts act w.fit fit;
       calls_differ = rw (numbers (acts ++ act ∷ []), same, ← numbers acts) w.calls_differ;
       channels = w.channels;
+      serves_fit = w.serves_fit;
     }
 
 -- One more call.
-pub within_call : (slots : Option ℕ) (names servers : List (List ℕ)) (chans : List Chan) (acts : List Act) (calls : List (ℕ × ℕ)) (at call chan : ℕ) (text : List ℕ) (events weight more : ℕ)
-    → IsWithin slots names servers chans acts calls events weight → length calls < 100000 → at < 2 ^ 53 → chan_of acts call ≡ None → chan < length names → length text ≤ 60000
+pub within_call : (slots : Option ℕ) (names servers : List (List ℕ)) (chans : List Chan) (serves : List Serve) (acts : List Act) (calls : List (ℕ × ℕ)) (at call chan : ℕ) (text : List ℕ) (events weight more : ℕ)
+    → IsWithin slots names servers chans serves acts calls events weight → length calls < 100000 → at < 2 ^ 53 → chan_of acts call ≡ None → chan < length names → length text ≤ 60000
     → more ≡ call_weight chans chan call text → weight + more ≤ 2 ^ 30
-    → IsWithin slots names servers chans (acts ++ Call at call chan text ∷ []) (calls ++ (call, chan) ∷ []) events (weight + more)
-within_call slots names servers chans acts calls at call chan text events weight more w room moment none channel short weighs light =
+    → IsWithin slots names servers chans serves (acts ++ Call at call chan text ∷ []) (calls ++ (call, chan) ∷ []) events (weight + more)
+within_call slots names servers chans serves acts calls at call chan text events weight more w room moment none channel short weighs light =
     let same : called (acts ++ Call at call chan text ∷ []) ≡ called acts ++ call ∷ [] = called_after acts at call chan text in
     record {
       few_slots = w.few_slots;
@@ -188,6 +192,7 @@ within_call slots names servers chans acts calls at call chan text events weight
       fit = All-push (IsAct (length chans)) acts (Call at call chan text) w.fit (let n = w.named in omega arith, short);
       calls_differ = rw same (IsDistinct-push nat_eq_equiv (called acts) call w.calls_differ (rw (numbers acts) (no-number (calls_of acts) call none)));
       channels = w.channels;
+      serves_fit = w.serves_fit;
     }
   where
     called_after : (acts : List Act) (at call chan : ℕ) (text : List ℕ) → called (acts ++ Call at call chan text ∷ []) ≡ called acts ++ call ∷ []

@@ -12,7 +12,7 @@ mod writing;
 
 pub use fault::ScriptFault;
 pub use reading::read_script;
-pub use rpc_model::{Act, Cause, Mode, Script, Told};
+pub use rpc_model::{Act, Cause, Direction, Mode, Script, Serve, Told};
 pub use writing::{write_refusal, write_told};
 
 #[cfg(test)]

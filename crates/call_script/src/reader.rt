@@ -13,7 +13,7 @@ mod setting_lines;
 use crate::calls::Calls;
 use crate::names::Names;
 use rpc_base::List;
-use rpc_model::{Act, Chan, DEFAULT_SLOTS, Mode, Script};
+use rpc_model::{Act, Chan, DEFAULT_SLOTS, Mode, Script, Serve};
 use std::alloc::Global;
 use std::marker::Model;
 
@@ -27,6 +27,7 @@ pub(crate) struct Reader {
     names: Names,
     servers: Names,
     chans: Vec<Chan>,
+    serves: Vec<Serve>,
     acts: Vec<Act>,
     calls: Calls,
     events: u64,
@@ -40,9 +41,9 @@ impl Model for Reader {
 
     ghost use Rattle.call_script.specs.Within.{IsWithin};
 
-    ghost view = { λ r. record { mode = r.mode; slots = r.slots; names = r.names; servers = r.servers; chans = r.chans.items; acts = r.acts.items } };
+    ghost view = { λ r. record { mode = r.mode; slots = r.slots; names = r.names; servers = r.servers; chans = r.chans.items; serves = r.serves.items; acts = r.acts.items } };
 
-    ghost invariant = { λ r. IsWithin r.slots r.names r.servers r.chans.items r.acts.items r.calls r.events r.weight };
+    ghost invariant = { λ r. IsWithin r.slots r.names r.servers r.chans.items r.serves.items r.acts.items r.calls r.events r.weight };
 }
 
 impl Reader {
@@ -56,6 +57,7 @@ impl Reader {
             names: Names::new(alloc),
             servers: Names::new(alloc),
             chans: Vec::new(alloc),
+            serves: Vec::new(alloc),
             acts: Vec::new(alloc),
             calls: Calls::new(alloc),
             events: 0,
@@ -74,6 +76,7 @@ impl Reader {
             slots: self.slots.unwrap_or(DEFAULT_SLOTS),
             servers: self.servers.len() as u32,
             chans: List::of(self.chans),
+            serves: List::of(self.serves),
             acts: List::of(self.acts),
         }
     }

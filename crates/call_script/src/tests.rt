@@ -48,6 +48,17 @@ fn causes(rt: HostRuntime) -> Result<(), Fail> {
         (Mode::Live, "at 5 tick", Some(Cause::SimOnly)),
         (Mode::Live, "at 05 reply 2 0#0 0 abc", Some(Cause::SimOnly)),
         (Mode::Live, "at 5 lose 1 0#0 1009", Some(Cause::SimOnly)),
+        (Mode::Sim, "serve a ok", Some(Cause::LiveOnly)),
+        (Mode::Live, "serve a", Some(Cause::BadLine)),
+        (Mode::Live, "serve A what", Some(Cause::BadName)),
+        (Mode::Live, "serve b what", Some(Cause::NoName)),
+        (Mode::Live, "serve a ok err=0", Some(Cause::BadWord)),
+        (Mode::Live, "serve a delay=60001", Some(Cause::BadWord)),
+        (
+            Mode::Live,
+            "serve a ok err=65535 drop twice delay=1 close",
+            Some(Cause::Late),
+        ),
         (Mode::Sim, "join 01", Some(Cause::BadNumber)),
         (
             Mode::Sim,
@@ -100,6 +111,33 @@ fn typed_channels(rt: HostRuntime) -> Result<(), Fail> {
         (leaf.retry, leaf.backup, leaf.timeout),
         (7, Some(30), None)
     );
+    Ok(())
+}
+
+/// What servers do, and that a line says it once for each.
+#[test]
+fn directions(rt: HostRuntime) -> Result<(), Fail> {
+    let alloc = rt.alloc();
+    let text =
+        "leaf w a,b retry=0 backup=-1 timeout=1\nserve b ok err=7 drop twice delay=60000 close\nat 0 call 1 w hi\n";
+    let script = read_script(alloc, Mode::Live, text.as_bytes())
+        .ok()
+        .ok_or("the script is good")?;
+    assert_eq!(rt; script.serves.list().len(), 1);
+    let serve = &script.serves.list()[0];
+    assert_eq!(rt; serve.server, 1);
+    let wanted = [
+        Direction::Plain,
+        Direction::Err(7),
+        Direction::Drop,
+        Direction::Twice,
+        Direction::Delay(60_000),
+        Direction::Close,
+    ];
+    assert_eq!(rt; serve.words.list(), wanted.as_slice());
+    let twice = "leaf w a,b retry=0 backup=-1 timeout=1\nserve b ok\nserve b ok\n";
+    let found = fault(alloc, Mode::Live, twice.as_bytes())?;
+    assert_eq!(rt; found, Some((3, Cause::DupName)));
     Ok(())
 }
 

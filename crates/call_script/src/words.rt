@@ -5,9 +5,9 @@ ghost use Rattle.std.specs.List.{list_all};
 ghost use Rattle.std.specs.Option.{option_map};
 ghost use Rattle.std.specs.Result.{result_map_both};
 ghost use Rattle.rpc_model.specs.Words as spec;
-ghost use Rattle.rpc_model.specs.Fits.{IsWait};
+ghost use Rattle.rpc_model.specs.Fits.{IsSpelled, IsWait};
 
-use rpc_model::{Cause, NAME_LIMIT, TEXT_LIMIT, WAIT_LIMIT};
+use rpc_model::{CODE_LIMIT, Cause, DELAY_LIMIT, Direction, NAME_LIMIT, TEXT_LIMIT, WAIT_LIMIT};
 
 /// Whether each byte is one of `low` to `high`.
 pub(crate) fn all_within(bytes: &[u8], low: u8, high: u8) -> bool
@@ -166,4 +166,33 @@ pub(crate) fn attempt_word(word: &[u8]) -> Result<(u32, u32), Cause>
     let node = number_or(Cause::BadAttempt, front, 0, 4_294_967_295)?;
     let attempt = number_or(Cause::BadAttempt, &rest[1..], 0, 4_294_967_295)?;
     Ok((node as u32, attempt as u32))
+}
+
+/// A direction of a server.
+#[tactic(auto, unfolding(rpc_model::specs::Words::direction_word))]
+pub(crate) fn direction_word(word: &[u8]) -> Result<Direction, Cause>
+    ensures value { result ≡ spec.direction_word word.now }
+    ensures bound { IfOk result IsSpelled }
+{
+    if *word == *b"ok".as_slice() {
+        return Ok(Direction::Plain);
+    }
+    if *word == *b"drop".as_slice() {
+        return Ok(Direction::Drop);
+    }
+    if *word == *b"twice".as_slice() {
+        return Ok(Direction::Twice);
+    }
+    if *word == *b"close".as_slice() {
+        return Ok(Direction::Close);
+    }
+    if let Some(code) = word.strip_prefix(b"err=") {
+        let code = number_or(Cause::BadWord, code, 1, CODE_LIMIT)?;
+        return Ok(Direction::Err(code as u32));
+    }
+    if let Some(millis) = word.strip_prefix(b"delay=") {
+        let millis = number_or(Cause::BadWord, millis, 1, DELAY_LIMIT)?;
+        return Ok(Direction::Delay(millis));
+    }
+    Err(Cause::BadWord)
 }

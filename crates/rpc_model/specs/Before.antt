@@ -4,23 +4,25 @@ use Rattle.std.specs.Option.{option_map}
 use Rattle.rpc_model.specs.declared.chan.Chan.{Chan}
 use Rattle.rpc_model.specs.declared.script.Mode.{Mode}
 use Rattle.rpc_model.specs.declared.script.Mode.TheVariants.{Sim, Live}
+use Rattle.rpc_model.specs.declared.script.Serve.{Serve}
 use Rattle.rpc_model.specs.declared.script.Act.{Act}
 use Rattle.rpc_model.specs.declared.script.Act.TheVariants.{Call, Cancel, Reply, Lose, Tick, Join}
 use Rattle.rpc_model.specs.declared.limits.TheConstants.{SIM_CALL_LIMIT, LIVE_CALL_LIMIT, ATTEMPT_WEIGHT, SIM_WEIGHT_LIMIT, LIVE_WEIGHT_LIMIT}
 use Rattle.rpc_model.specs.Plan.{Plan, plan, possible_attempts}
 
 -- how many calls may be open where a line says so, the channels with their names, the names of the servers in the order
--- of their first mention, and what happens, each in the order of the lines
+-- of their first mention, what servers do, and what happens, each in the order of the lines
 pub record Before : Type 0 where
   pub mode : Mode
   pub slots : Option ℕ
   pub names : List (List ℕ)
   pub servers : List (List ℕ)
   pub chans : List Chan
+  pub serves : List Serve
   pub acts : List Act
 
 abbrev pub nothing : Mode → Before
-nothing mode = record { mode = mode; slots = None; names = []; servers = []; chans = []; acts = [] }
+nothing mode = record { mode = mode; slots = None; names = []; servers = []; chans = []; serves = []; acts = [] }
 
 abbrev pub is_sim : Mode → Bool
 is_sim Sim = true

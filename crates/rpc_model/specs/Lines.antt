@@ -7,7 +7,7 @@ use Rattle.rpc_model.specs.declared.script.Cause.TheVariants.{LineTooLong, BadBy
 use Rattle.rpc_model.specs.declared.limits.TheConstants.{LINE_LIMIT, SUB_LIMIT}
 use Rattle.rpc_model.specs.Words.{◌>>=◌, demand, all_within}
 use Rattle.rpc_model.specs.Before.{Before}
-use Rattle.rpc_model.specs.SettingLines.{open_line}
+use Rattle.rpc_model.specs.SettingLines.{open_line, serve_line}
 use Rattle.rpc_model.specs.ChannelLines.{leaf_line}
 use Rattle.rpc_model.specs.CallLines.{call_line, reply_line, lose_line, cancel_line, tick_line, join_line}
 
@@ -48,14 +48,22 @@ built_line before words = Err BadLine
 abbrev pub has_subs : ℕ → ℕ → Bool
 has_subs few count = nat_le (few + 1) count && nat_le count (few + SUB_LIMIT)
 
--- a line of a kind that isn't built, with as many words as its kind has: `par`, `sel`, `part`, `serve`
+-- a line of a kind that isn't built, with as many words as its kind has: `par`, `sel`, `part`
 abbrev pub is_unbuilt : List (List ℕ) → Bool
 is_unbuilt [] = false
 is_unbuilt (kind ∷ words) =
     (bytes_eq kind (codes "par") && has_subs 4 (length words))
     || (bytes_eq kind (codes "sel") && has_subs 3 (length words))
     || (bytes_eq kind (codes "part") && has_subs 8 (length words))
-    || (bytes_eq kind (codes "serve") && has_subs 1 (length words))
+
+-- a line `serve` with as many words as it has
+abbrev pub is_serve : List (List ℕ) → Bool
+is_serve [] = false
+is_serve (kind ∷ words) = bytes_eq kind (codes "serve") && has_subs 1 (length words)
+
+abbrev pub serve_words : Before → List (List ℕ) → Result Before Cause
+serve_words before (kind ∷ server ∷ words) = serve_line before server words
+serve_words before words = Err BadLine
 
 abbrev pub is_word : List ℕ → Bool
 is_word word = not (length word == 0)
@@ -64,7 +72,7 @@ unfoldable pub words_say : Before → List (List ℕ) → Result Before Cause
 words_say before words = do
   _ ← demand (list_all is_word words) BadLine
   _ ← demand (not (is_unbuilt words)) NotBuilt
-  built_line before words
+  if is_serve words then serve_words before words else built_line before words
 
 -- an empty line and a comment say nothing
 abbrev pub says_nothing : List ℕ → Bool

@@ -21,7 +21,7 @@ lines_say number before (line ∷ lines) = line_judged number (λ after. lines_s
 
 -- the typed lines; 1,024 calls may be open where no line says how many
 abbrev pub script_of : Before → Script
-script_of before = record { mode = before.mode; slots = unwrap_or before.slots DEFAULT_SLOTS; servers = length before.servers; chans = before.chans; acts = before.acts }
+script_of before = record { mode = before.mode; slots = unwrap_or before.slots DEFAULT_SLOTS; servers = length before.servers; chans = before.chans; serves = before.serves; acts = before.acts }
 
 abbrev pub scripted : Result Before (ℕ × Cause) → Result Script (ℕ × Cause)
 scripted (Ok before) = Ok (script_of before)

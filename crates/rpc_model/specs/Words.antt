@@ -2,8 +2,10 @@
 use Rattle.std.specs.Prelude.{ℕ, ◌+◌, ◌-◌, ◌*◌, Bool, true, false, ◌==◌, ◌&&◌, ◌||◌, not, nat_le, List, [], ◌∷◌, length, drop, take, is_none, Option, None, Some, Result, Ok, Err, codes, bytes_eq, position, if◌then◌else◌}
 use Rattle.std.specs.List.{list_all, slice_split}
 use Rattle.rpc_model.specs.declared.script.Cause.{Cause}
-use Rattle.rpc_model.specs.declared.script.Cause.TheVariants.{BadNumber, BadOption, BadName, DupName, NoName, BadAttempt, TextTooLong}
-use Rattle.rpc_model.specs.declared.limits.TheConstants.{WAIT_LIMIT, NAME_LIMIT, SERVER_NAME_LIMIT, TEXT_LIMIT}
+use Rattle.rpc_model.specs.declared.script.Cause.TheVariants.{BadNumber, BadOption, BadName, DupName, NoName, BadWord, BadAttempt, TextTooLong}
+use Rattle.rpc_model.specs.declared.direction.Direction.{Direction}
+use Rattle.rpc_model.specs.declared.direction.Direction.TheVariants as direction
+use Rattle.rpc_model.specs.declared.limits.TheConstants.{WAIT_LIMIT, DELAY_LIMIT, CODE_LIMIT, NAME_LIMIT, SERVER_NAME_LIMIT, TEXT_LIMIT}
 
 infixl 10 ◌>>=◌
 abbrev pub ◌>>=◌ : {A B : Type 0} → Result A Cause → (A → Result B Cause) → Result B Cause
@@ -108,3 +110,29 @@ attempt_word word = do
   node ← number_or BadAttempt 0 4294967295 (take at word)
   attempt ← number_or BadAttempt 0 4294967295 (drop 1 (drop at word))
   Ok (node, attempt)
+
+-- the direction that a number makes, or the cause
+abbrev pub numbered : (ℕ → Direction) → Result ℕ Cause → Result Direction Cause
+numbered made (Ok n) = Ok (made n)
+numbered made (Err cause) = Err cause
+
+-- a direction of a server: `ok`, `err=N`, `drop`, `twice`, `delay=N` or `close`
+unfoldable pub direction_word : List ℕ → Result Direction Cause
+direction_word word =
+    if bytes_eq word (codes "ok") then Ok direction.Plain
+    else if bytes_eq word (codes "drop") then Ok direction.Drop
+    else if bytes_eq word (codes "twice") then Ok direction.Twice
+    else if bytes_eq word (codes "close") then Ok direction.Close
+    else if bytes_eq (take 4 word) (codes "err=") then numbered (λ n. direction.Err n) (number_or BadWord 1 CODE_LIMIT (drop 4 word))
+    else if bytes_eq (take 6 word) (codes "delay=") then numbered (λ n. direction.Delay n) (number_or BadWord 1 DELAY_LIMIT (drop 6 word))
+    else Err BadWord
+
+-- one direction, and those behind it
+abbrev pub direction_then : Result (List Direction) Cause → Direction → Result (List Direction) Cause
+direction_then (Ok others) first = Ok (first ∷ others)
+direction_then (Err cause) first = Err cause
+
+-- directions, or the cause of the first bad one
+abbrev pub direction_words : List (List ℕ) → Result (List Direction) Cause
+direction_words [] = Ok []
+direction_words (word ∷ words) = direction_word word >>= direction_then (direction_words words)

@@ -33,6 +33,8 @@ pub const WAIT_LIMIT: u64 = 2_147_483_647;
 pub const CALL_NUMBER_LIMIT: u64 = 1_000_000_000;
 /// The greatest code of a reply or a loss.
 pub const CODE_LIMIT: u64 = 65_535;
+/// The longest wait of a server before an answer, in milliseconds.
+pub const DELAY_LIMIT: u64 = 60_000;
 /// The greatest length of a channel's or a server's name, in bytes.
 pub const NAME_LIMIT: usize = 32;
 /// The greatest length of a text, in bytes.

@@ -1,4 +1,5 @@
 use crate::chan::Chan;
+use crate::direction::Direction;
 use rpc_base::{Bytes, List};
 
 /// How a script is to run.
@@ -20,8 +21,19 @@ pub struct Script {
     pub servers: u32,
     /// The channels, in the order of their lines.
     pub chans: List<Chan>,
+    /// What servers do, in the order of the lines; each server at most once. A server that isn't named answers plainly.
+    pub serves: List<Serve>,
     /// What happens, in the order of the lines.
     pub acts: List<Act>,
+}
+
+/// What a server does: the i-th request, from 0, follows direction i modulo their number.
+#[derive(Debug, Drop)]
+pub struct Serve {
+    /// The server's number.
+    pub server: u32,
+    /// The directions, 1 to 1,000.
+    pub words: List<Direction>,
 }
 
 /// A line that says what happens. `at` is a moment in milliseconds, below 2^53.

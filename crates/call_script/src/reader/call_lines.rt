@@ -83,7 +83,7 @@ impl Reader {
     }
 
     /// How many calls there are.
-    fn call_count(&self) -> usize
+    pub(super) fn call_count(&self) -> usize
         ensures { result ≡ length (before.calls_of self.now.acts) }
     {
         self.calls.len()

@@ -119,7 +119,23 @@ impl Reader {
         if is_unbuilt(words) {
             return Err(LineFault::Refused(Cause::NotBuilt));
         }
+        if is_serve(words) {
+            return self.serve_words(words);
+        }
         self.built_line(words)
+    }
+
+    /// A line `serve`.
+    fn serve_words(&mut self, words: &[&[u8]]) -> Result<(), LineFault>
+        ensures { Judged result self.new (spec.serve_words self.old (map (λ w. w.now) words.now)) }
+    {
+        let Some((_, rest)) = words.split_first() else {
+            return Err(LineFault::Refused(Cause::BadLine));
+        };
+        let Some((server, directions)) = rest.split_first() else {
+            return Err(LineFault::Refused(Cause::BadLine));
+        };
+        self.serve_line(server, directions)
     }
 
     /// One more line.
@@ -174,5 +190,14 @@ fn is_unbuilt(words: &[&[u8]]) -> bool
     (**kind == *b"par".as_slice() && has_subs(4, rest.len()))
         || (**kind == *b"sel".as_slice() && has_subs(3, rest.len()))
         || (**kind == *b"part".as_slice() && has_subs(8, rest.len()))
-        || (**kind == *b"serve".as_slice() && has_subs(1, rest.len()))
+}
+
+/// Whether the words are a line `serve`, with as many words as it has.
+fn is_serve(words: &[&[u8]]) -> bool
+    ensures { result ≡ spec.is_serve (map (λ w. w.now) words.now) }
+{
+    let [kind, rest @ ..] = words else {
+        return false;
+    };
+    **kind == *b"serve".as_slice() && has_subs(1, rest.len())
 }
