@@ -86,7 +86,7 @@ module _ {T E : Type 0} (log : T → List E) (first_id : T → ℕ) (rec : E →
               turn = sym (yes_if id id (Some (log x)) None refl);
               taking = fit.taking;
               ended_below = fit.ended_below;
-              got = fit.got ∙ sym (yes_if id id bare bare refl);
+              got = sym (yes_if id id bare bare refl);
             }
             (tt, tt, ok.chain) (refl, refl, refl, refl) (let b = begins f kept.history i (receipts_in rec (log x)) told no_receipt in (b.0, b.1, b.2, tt)),
         (x, refl, (λ z. (view_with me.0 me.0.seen i (part_with_range (part_of me.0 i) (sym first z, sym size z) (log x)), (i, None) ∷ me.1)), fit.hold),

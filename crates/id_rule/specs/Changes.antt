@@ -52,7 +52,7 @@ module _ {E : Type 0} where
     ended_below = p.ended_below;
     receipts = p.receipts;
     dropped = p.dropped;
-    got = p.got;
+    got = [];
     turn = Some log;
     last = p.last;
     destroyed = p.destroyed;

@@ -1,3 +1,4 @@
+mod Keeping
 mod Grown
 mod Loads
 mod Looks

@@ -81,7 +81,7 @@ module _ {T E : Type 0} (log : T → List E) (first_id : T → ℕ) where
             (lk.0, lk.1, lk.2, (λ l h. lk.3 l (subst (λ (z : Part E). HasLog z.logs c.first l) (sym now) h)), sym (ap (λ (z : Part E). z.hold) now) ∙ lk.4),
             a.1.3 ∙ ap (λ z. with_view z (view_with_hold (view_after_load z.view c.slot word) c (log x))) w.1
                 ∙ ap (λ v. with_view p (view_with_hold v c (log x))) (sym (loads_more p.view (words_of c.slot w.0) ((c.slot, word) ∷ []))
-                    ∙ ap (view_after_loads p.view) (sym (words_more c.slot word w.0))),
+                ∙ ap (view_after_loads p.view) (sym (words_more c.slot word w.0))),
           ),
         ),
       )

@@ -10,7 +10,7 @@ use Rattle.id_shared.specs.declared.answers.LockEnd.{LockEnd}
 use Rattle.id_shared.specs.declared.answers.LockEnd.TheVariants as lock
 use Rattle.id_shared.specs.declared.answers.CollectEnd.{CollectEnd}
 use Rattle.id_shared.specs.declared.answers.CollectEnd.TheVariants as collect
-use Rattle.id_shared.specs.Standing.{Claim, Standing, HasSpot, HasHold, HasOwner}
+use Rattle.id_shared.specs.Standing.{Claim, Standing, HasSpot, HasHold}
 
 module _ {E : Type 0} where
   -- each Spot, Hold and Owner of the slot is still there
@@ -57,7 +57,7 @@ module _ {T E : Type 0} (log : T → List E) where
   HasLockEnd q (lock.Gone word) = Unit {0}
   HasLockEnd q lock.NoSlot = Unit {0}
 
--- an Owner that came back is the pass's
-abbrev pub HasOwnerBack : {T E : Type 0} → Standing E → CollectEnd T → Type 0
-HasOwnerBack q (collect.Value x) = Unit {0}
-HasOwnerBack q (collect.NotYet c word) = HasOwner q c
+-- `collect` keeps the claims on other slots, and all where it hands the Owner back
+abbrev pub KeepsCollected : {T E : Type 0} → Claim → Standing E → CollectEnd T → Standing E → Type 0
+KeepsCollected c p (collect.Value x) q = KeepsOthers c.slot p q
+KeepsCollected c p (collect.NotYet same word) q = KeepsClaims p q

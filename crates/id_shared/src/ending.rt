@@ -3,6 +3,7 @@ ghost use Rattle.std.specs.Prelude.{◌≡◌, ◌<◌, ◌≤◌, ◌+◌, ◌^
 ghost use Rattle.id_rule.specs.declared.view.Receipt.{Receipt};
 ghost use Rattle.id_rule.specs.Words.{packed_word};
 ghost use Rattle.id_shared.specs.Answers.{HasGrownWithout, IsCollected};
+ghost use Rattle.id_shared.specs.Claims.{KeepsCollected, KeepsOthers, KeepsOwners};
 ghost use Rattle.id_shared.specs.Standing.{IsPassOf, HasHold, HasOwner, first_id_of};
 ghost use Rattle.id_shared.specs.Views.{with_view, view_after_destroy};
 
@@ -27,6 +28,8 @@ impl<T: Tenant> Ids<T> {
         ensures own { IsPassOf self.now pass.new }
         ensures none { result ≡ 0 }
         ensures view { (out : List Receipt) × HasGrownWithout T.receipt pass.old hold (T.log value) out × (pass.new ≡ with_view pass.old (view_after_destroy pass.old.view hold (T.log value) out)) }
+        ensures owners { KeepsOwners pass.old pass.new }
+        ensures others { KeepsOthers hold.slot pass.old pass.new }
     {
         let Hold { slot, first, size } = hold;
         self.put(&mut pass.seat, slot, value);
@@ -42,6 +45,17 @@ impl<T: Tenant> Ids<T> {
     ///
     /// `NotYet` comes only where the word loaded in this call isn't this range's ended word; the owner comes back.
     pub fn collect(&self, pass: &mut Pass<T>, owner: Owner) -> CollectEnd<T>
+        requires own { IsPassOf self.now pass.old }
+        requires owner { HasOwner pass.old owner }
+        ensures own { IsPassOf self.now pass.new }
+        ensures answer { IsCollected T.log T.first_id owner pass.old result pass.new }
+        ensures claims { KeepsCollected owner pass.old result pass.new }
+    {
+        self.collect_once(pass, owner)
+    }
+
+    // Loads the word, and takes the value out where the range has ended.
+    fn collect_once(&self, pass: &mut Pass<T>, owner: Owner) -> CollectEnd<T>
         requires own { IsPassOf self.now pass.old }
         requires owner { HasOwner pass.old owner }
         ensures own { IsPassOf self.now pass.new }

@@ -22,3 +22,6 @@ pub use claims::{Hold, Owner, Spot};
 pub use id_rule::{Receipt, Tenant};
 pub use ids::Ids;
 pub use pass::Pass;
+
+#[cfg(test)]
+mod tests;

@@ -4,7 +4,8 @@ ghost use Rattle.rpc_model.specs.Gone.{code_in};
 ghost use Rattle.id_rule.specs.Carried.{IsOut, AreHeld, without};
 ghost use Rattle.id_rule.specs.Receipts.{receipts_in};
 ghost use Rattle.id_shared.specs.Answers.{IsLockedFrom, IsTried, IsGone, HasSeenEnd, HasGrown};
-ghost use Rattle.id_shared.specs.Standing.{IsPassOf, HasSpot, HasHold, first_id_of};
+ghost use Rattle.id_shared.specs.Claims.{HasTried, IsHolding, KeepsClaims, KeepsOthers, KeepsOwners};
+ghost use Rattle.id_shared.specs.Standing.{IsPassOf, HasSpot, HasHold, HasOwner, first_id_of};
 ghost use Rattle.id_shared.specs.declared.answers.UnlockEnd.TheVariants.{Unlocked};
 ghost use Rattle.id_shared.specs.Views.{with_view, view_with_range, view_without_hold};
 
@@ -30,6 +31,9 @@ impl<T: Tenant> Ids<T> {
         ensures tokens { (result.0 ≡ spot) × (result.1 ≡ spot) }
         ensures value { result.2 ≡ value }
         ensures view { pass.new ≡ with_view pass.old (view_with_range pass.old.view spot (T.log value)) }
+        ensures holding { IsHolding pass.new result.1 (T.log value) }
+        ensures owner { HasOwner pass.new result.0 }
+        ensures others { KeepsOthers spot.slot pass.old pass.new }
     {
         let Spot { slot, first, size } = spot;
         let old = pack(first, size, State::Reserved, 0);
@@ -83,6 +87,18 @@ impl<T: Tenant> Ids<T> {
         ensures own { IsPassOf self.now pass.new }
         ensures answer { IsTried T.log T.first_id self.now.sizes.slots id pass.old result pass.new }
         ensures stays_gone { HasSeenEnd self.now.sizes.slots id pass.old → IsGone result }
+        ensures holding { HasTried T.log pass.new result }
+        ensures claims { KeepsClaims pass.old pass.new }
+    {
+        self.try_once(pass, id)
+    }
+
+    // Loads the word, and locks the range if it is free.
+    fn try_once(&self, pass: &mut Pass<T>, id: u64) -> TryLock<T>
+        requires own { IsPassOf self.now pass.old }
+        ensures own { IsPassOf self.now pass.new }
+        ensures answer { IsTried T.log T.first_id self.now.sizes.slots id pass.old result pass.new }
+        ensures stays_gone { HasSeenEnd self.now.sizes.slots id pass.old → IsGone result }
     {
         let Some(slot) = slot_of(id) else {
             return TryLock::NoSlot;
@@ -126,6 +142,8 @@ impl<T: Tenant> Ids<T> {
         ensures own { IsPassOf self.now pass.new }
         ensures unlocked { result ≡ Unlocked }
         ensures view { pass.new ≡ with_view pass.old (view_without_hold pass.old.view hold (T.log value)) }
+        ensures owners { KeepsOwners pass.old pass.new }
+        ensures others { KeepsOthers hold.slot pass.old pass.new }
     {
         let Hold { slot, first, size } = hold;
         self.put(&mut pass.seat, slot, value);

@@ -3,6 +3,7 @@ ghost use Rattle.std.specs.Prelude.{◌≡◌, ◌<◌, ◌≤◌, ◌^◌, ◌+
 ghost use Rattle.rpc_model.specs.Gone.{code_in, is_live_in};
 ghost use Rattle.id_rule.specs.Changes.{view_after_load};
 ghost use Rattle.id_rule.specs.Parts.{part_of};
+ghost use Rattle.id_shared.specs.Claims.{HasReserved, KeepsClaims, KeepsOthers};
 ghost use Rattle.id_shared.specs.Standing.{IsPassOf, HasSpot};
 ghost use Rattle.id_shared.specs.Views.{with_view, view_without_spot};
 ghost use Rattle.id_shared.specs.Answers.{IsSize, IsReservedFrom, IsReserved};
@@ -80,6 +81,7 @@ impl<T: Tenant> Ids<T> {
         requires spot { HasSpot pass.old spot }
         ensures own { IsPassOf self.now pass.new }
         ensures view { pass.new ≡ with_view pass.old (view_without_spot pass.old.view spot.slot) }
+        ensures others { KeepsOthers spot.slot pass.old pass.new }
     {
         let Spot {
             slot,
@@ -98,6 +100,17 @@ impl<T: Tenant> Ids<T> {
     /// wasn't vacant (`Pass::seen` has the words), and `Again` exactly where the exchange found another word than the
     /// vacant one. After each of these the pass has what it had.
     pub fn reserve(&self, pass: &mut Pass<T>, range: u32) -> Reserve
+        requires own { IsPassOf self.now pass.old }
+        ensures own { IsPassOf self.now pass.new }
+        ensures answer { IsReserved self.now.sizes.slots range pass.old result pass.new }
+        ensures spot { HasReserved pass.new result }
+        ensures claims { KeepsClaims pass.old pass.new }
+    {
+        self.reserve_first(pass, range)
+    }
+
+    // Reserves the first vacant slot.
+    fn reserve_first(&self, pass: &mut Pass<T>, range: u32) -> Reserve
         requires own { IsPassOf self.now pass.old }
         ensures own { IsPassOf self.now pass.new }
         ensures answer { IsReserved self.now.sizes.slots range pass.old result pass.new }

@@ -2,6 +2,7 @@
 //! call that waits returns.
 ghost use Rattle.std.specs.Prelude.{◌≡◌};
 ghost use Rattle.id_shared.specs.Answers.{IsLockEnd, IsGoneEnd, HasSeenEnd, IsJoined, IsJoinSeen};
+ghost use Rattle.id_shared.specs.Claims.{HasLockEnd, KeepsClaims, KeepsOthers};
 ghost use Rattle.id_shared.specs.Standing.{IsPassOf, HasOwner};
 
 use crate::answers::{CollectEnd, LockEnd, TryLock};
@@ -23,6 +24,8 @@ impl<T: Tenant> Ids<T> {
         ensures own { IsPassOf self.now pass.new }
         ensures answer { IsLockEnd T.log T.first_id self.now.sizes.slots id pass.old result pass.new }
         ensures stays_gone { HasSeenEnd self.now.sizes.slots id pass.old → IsGoneEnd result }
+        ensures holding { HasLockEnd T.log pass.new result }
+        ensures claims { KeepsClaims pass.old pass.new }
     {
         for _ in rt.forever() {
             match self.try_lock(pass, id) {
@@ -43,6 +46,7 @@ impl<T: Tenant> Ids<T> {
         requires owner { HasOwner pass.old owner }
         ensures own { IsPassOf self.now pass.new }
         ensures answer { IsJoined T.log T.first_id owner pass.old result pass.new }
+        ensures others { KeepsOthers owner.slot pass.old pass.new }
     {
         let mut waits = owner;
         for _ in rt.forever() {
@@ -61,6 +65,7 @@ impl<T: Tenant> Ids<T> {
         requires own { IsPassOf self.now pass.old }
         ensures own { IsPassOf self.now pass.new }
         ensures answer { IsJoinSeen self.now.sizes.slots id pass.old result pass.new }
+        ensures claims { KeepsClaims pass.old pass.new }
     {
         let Some(slot) = slot_of(id) else {
             return None;

@@ -18,7 +18,7 @@ pub put-requires-clause-slot : goal.put-requires-clause-slot
 put-requires-clause-slot g c =
     let s = c.pass.inside.seat in let k = c.hold.inside in
     let has : (part_of s.me.0 k.slot).hold ≡ Some (k.first, k.size) = subst (λ (z : Claim × Standing g.row.T-Entry.Denot). HasHold z.1 z.0) (λ y. (sym c.hold.view_is y, sym c.pass.view_is y))
-        c.requires.hold in
+    c.requires.hold in
     let low = hold_is_low s.table_id.slots _ k.slot s.me c.pass.invariant (k.first, k.size) has in
     low
 
@@ -26,7 +26,7 @@ pub swap-requires : goal.swap-requires
 swap-requires g c =
     let s = c.pass.inside.seat in let k = c.hold.inside in
     let has : (part_of s.me.0 k.slot).hold ≡ Some (k.first, k.size) = subst (λ (z : Claim × Standing g.row.T-Entry.Denot). HasHold z.1 z.0) (λ y. (sym c.hold.view_is y, sym c.pass.view_is y))
-        c.requires.hold in
+    c.requires.hold in
     let low = hold_is_low s.table_id.slots _ k.slot s.me c.pass.invariant (k.first, k.size) has in
     let t = c.self.inside.table.shared in
     let at = at_claim t.table_id s.table_id t.key c.self.inside.sizes c.args.self.now c.args.pass.now _ k.slot c.self.view_is c.self.invariant c.pass.view_is refl c.requires.own low in
@@ -45,7 +45,7 @@ pub invariant_of-pass : goal.invariant_of-pass
 invariant_of-pass g c =
     let s = c.pass.inside.seat in let k = c.hold.inside in
     let has : (part_of s.me.0 k.slot).hold ≡ Some (k.first, k.size) = subst (λ (z : Claim × Standing g.row.T-Entry.Denot). HasHold z.1 z.0) (λ y. (sym c.hold.view_is y, sym c.pass.view_is y))
-        c.requires.hold in
+    c.requires.hold in
     let low = hold_is_low s.table_id.slots _ k.slot s.me c.pass.invariant (k.first, k.size) has in
     let put = c.put.ensures.me in let out = ap (λ m. m.1) put in let n = c.pack-new.result in
     let told = c.swap.ensures.2 c.args.value (out ∙ ap (λ z. (k.slot, Some c.args.value) ∷ z) (sym (ap rest out))) in
@@ -58,7 +58,7 @@ pub returns-clause-view : goal.returns-clause-view
 returns-clause-view g c =
     let s = c.pass.inside.seat in let k = c.hold.inside in
     let has : (part_of s.me.0 k.slot).hold ≡ Some (k.first, k.size) = subst (λ (z : Claim × Standing g.row.T-Entry.Denot). HasHold z.1 z.0) (λ y. (sym c.hold.view_is y, sym c.pass.view_is y))
-        c.requires.hold in
+    c.requires.hold in
     let low = hold_is_low s.table_id.slots _ k.slot s.me c.pass.invariant (k.first, k.size) has in
     let put = c.put.ensures.me in let out = ap (λ m. m.1) put in let n = c.pack-new.result in
     let told = c.swap.ensures.2 c.args.value (out ∙ ap (λ z. (k.slot, Some c.args.value) ∷ z) (sym (ap rest out))) in

@@ -5,6 +5,7 @@ use Rattle.id_shared.specs.declared.answers.CollectEnd.TheVariants as collect
 use Rattle.id_shared.specs.Standing.{Claim, HasOwner}
 use Rattle.id_shared.specs.Views.{with_view}
 use Rattle.id_shared.proofs.Waits.{still_owner, joins_more, joined_end}
+use Rattle.id_shared.proofs.Keeping.{joined_others}
 use Rattle.id_shared.proofs.ids.Ids.join.Goals as goal
 
 pub collect-requires-clause-owner : goal.collect-requires-clause-owner
@@ -25,3 +26,7 @@ loop-preserved g c =
       joins_more c.args.pass.now q c.collect.new.pass c.args.owner c.in-NotYet.field-1 c.loop.invariant.2
           (a.2 ∙ ap (λ (z : Claim). with_view q (view_after_load q.view z.slot c.in-NotYet.field-1)) c.loop.invariant.1),
     )
+
+pub returns-in-Value-clause-others : goal.returns-in-Value-clause-others
+returns-in-Value-clause-others g c =
+    joined_others g.T.Tenant.log g.T.Tenant.first_id c.args.owner c.args.pass.now c.collect.new.pass c.in-Value.value (returns-in-Value-clause-answer g c)

@@ -13,7 +13,7 @@ pub compare_exchange-found-requires : goal.compare_exchange-found-requires
 compare_exchange-found-requires g c =
     let t = c.self.inside.table.shared in let s = c.pass.inside.seat in
     let at = at_slot t.table_id s.table_id t.key c.self.inside.sizes c.args.self.now c.args.pass.now _ c.args.slot c.self.view_is c.self.invariant c.pass.view_is refl c.requires.own
-        c.requires.slot in (
+    c.requires.slot in (
       at.0,
       at.2,
       quiet_lock g.T.Tenant.log g.T.Tenant.first_id g.T.Tenant.receipt t.key _ s.id c.args.slot s.me c.args.word c.pack-new.result at.1 c.requires.word.1
@@ -24,7 +24,7 @@ pub invariant_of-pass : goal.invariant_of-pass
 invariant_of-pass g c =
     let t = c.self.inside.table.shared in let s = c.pass.inside.seat in
     let at = at_slot t.table_id s.table_id t.key c.self.inside.sizes c.args.self.now c.args.pass.now _ c.args.slot c.self.view_is c.self.invariant c.pass.view_is refl c.requires.own
-        c.requires.slot in
+    c.requires.slot in
     let e = c.compare_exchange-found.ensures in
     steady_load s.table_id c.compare_exchange-found.new.seat.table_id c.args.slot _ s.me c.compare_exchange-found.new.seat.me e.0 at.3 c.pass.invariant c.compare_exchange-found.result
     (e.2.1 c.if-found-word.true)
@@ -33,7 +33,7 @@ pub exchange-item-requires : goal.exchange-item-requires
 exchange-item-requires g c =
     let t = c.self.inside.table.shared in let s = c.pass.inside.seat in
     let at = at_slot t.table_id s.table_id t.key c.self.inside.sizes c.args.self.now c.args.pass.now _ c.args.slot c.self.view_is c.self.invariant c.pass.view_is refl c.requires.own
-        c.requires.slot in
+    c.requires.slot in
     let e = c.compare_exchange-found.ensures in
     let lock = e.2.0 c.if-found-word.false in let out = ap (λ m. m.1) lock.1 in
     (e.0 ∙ at.0, (Some lock.0, out ∙ ap (λ z. (c.args.slot, Some lock.0) ∷ z) (sym (ap rest out))))
@@ -42,7 +42,7 @@ pub invariant_of-pass-2 : goal.invariant_of-pass-2
 invariant_of-pass-2 g c =
     let t = c.self.inside.table.shared in let s = c.pass.inside.seat in
     let at = at_slot t.table_id s.table_id t.key c.self.inside.sizes c.args.self.now c.args.pass.now _ c.args.slot c.self.view_is c.self.invariant c.pass.view_is refl c.requires.own
-        c.requires.slot in
+    c.requires.slot in
     let e = c.compare_exchange-found.ensures in let x = c.exchange-item.ensures in
     let lock = e.2.0 c.if-found-word.false in
     let p = part_with_hold (part_of s.me.0 c.args.slot) (Some (first_in c.args.word, range_in c.args.word)) (first_in c.args.word) (g.T.Tenant.log lock.0) in

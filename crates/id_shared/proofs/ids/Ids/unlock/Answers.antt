@@ -15,7 +15,7 @@ pub put-requires-clause-slot : goal.put-requires-clause-slot
 put-requires-clause-slot g c =
     let s = c.pass.inside.seat in let k = c.hold.inside in
     let has : (part_of s.me.0 k.slot).hold ≡ Some (k.first, k.size) = subst (λ (z : Claim × Standing g.row.T-Entry.Denot). HasHold z.1 z.0) (λ y. (sym c.hold.view_is y, sym c.pass.view_is y))
-        c.requires.hold in
+    c.requires.hold in
     let low = hold_is_low s.table_id.slots _ k.slot s.me c.pass.invariant (k.first, k.size) has in
     low
 
@@ -23,7 +23,7 @@ pub compare_exchange-requires : goal.compare_exchange-requires
 compare_exchange-requires g c =
     let s = c.pass.inside.seat in let k = c.hold.inside in
     let has : (part_of s.me.0 k.slot).hold ≡ Some (k.first, k.size) = subst (λ (z : Claim × Standing g.row.T-Entry.Denot). HasHold z.1 z.0) (λ y. (sym c.hold.view_is y, sym c.pass.view_is y))
-        c.requires.hold in
+    c.requires.hold in
     let low = hold_is_low s.table_id.slots _ k.slot s.me c.pass.invariant (k.first, k.size) has in
     let t = c.self.inside.table.shared in
     let at = at_claim t.table_id s.table_id t.key c.self.inside.sizes c.args.self.now c.args.pass.now _ k.slot c.self.view_is c.self.invariant c.pass.view_is refl c.requires.own low in
@@ -34,14 +34,14 @@ compare_exchange-requires g c =
           k.first k.size c.args.value (out ∙ ap (λ z. (k.slot, Some c.args.value) ∷ z) (sym (ap rest out))) at.1 (ap (λ m. (part_of m.0 k.slot).hold) put ∙ has)
           c.pack-old.ensures.word c.pack-new.ensures.word (c.requires.value ∙ ap first_id_of (sym c.hold.view_is))
           (grown_inside g.T.Tenant.receipt c.args.pass.now c.args.hold _ c.put.new.seat.me.0 (g.T.Tenant.log c.args.value) c.hold.view_is (ap (λ m. m.0) put ∙ ap (λ z. z.view) c.pass.view_is)
-              c.requires.log),
+          c.requires.log),
     )
 
 pub invariant_of-pass : goal.invariant_of-pass
 invariant_of-pass g c =
     let s = c.pass.inside.seat in let k = c.hold.inside in
     let has : (part_of s.me.0 k.slot).hold ≡ Some (k.first, k.size) = subst (λ (z : Claim × Standing g.row.T-Entry.Denot). HasHold z.1 z.0) (λ y. (sym c.hold.view_is y, sym c.pass.view_is y))
-        c.requires.hold in
+    c.requires.hold in
     let low = hold_is_low s.table_id.slots _ k.slot s.me c.pass.invariant (k.first, k.size) has in
     let e = c.compare_exchange.ensures in let n = c.pack-new.result in
     let p = part_with_hold (part_of s.me.0 k.slot) None (first_in n) (g.T.Tenant.log c.args.value) in
