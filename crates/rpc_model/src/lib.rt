@@ -12,6 +12,7 @@ mod entry;
 mod event;
 mod journal;
 mod laws;
+mod line;
 mod script;
 mod sent;
 mod told;
@@ -30,6 +31,7 @@ pub use laws::{
     attempts_are_few, due_marks_may_be_taken_at_once, ends_stay, one_attempt,
     replaced_attempts_do_nothing, sends_are_attempts, success_needs_a_live_reply, told_once,
 };
+pub use line::Line;
 pub use script::{Act, Cause, Mode, Script};
 pub use sent::Sent;
 pub use told::Told;
