@@ -1,7 +1,9 @@
 -- The text of lines that stand behind others.
 use Rattle.std.proofs.Common.{◌≡◌, ℕ, ◌+◌, ◌<◌, List, [], ◌∷◌, ◌++◌, length, get_or, drop, refl, ap, sym, ◌∙◌, append_assoc, codes}
 use Rattle.std.proofs.lemmas.List.{at_drop_more}
-use Rattle.rpc_model.specs.Texts.{Line, timer, line_text, text_of}
+use Rattle.rpc_model.specs.declared.line.Line.{Line}
+use Rattle.rpc_model.specs.declared.line.Line.TheVariants as line
+use Rattle.rpc_model.specs.Texts.{line_text, text_of}
 
 pub text_of_append : (xs ys : List Line) → text_of (xs ++ ys) ≡ text_of xs ++ text_of ys
 unfolding text_of
@@ -19,21 +21,22 @@ block_next {A = A} blocks one step before now whole xs i x h item written left =
     ∙ ap (λ (ls : List Line). text_of ls) (sym (at_drop_more (λ (l : List A). blocks i l) xs i x h ∙ ap (λ (y : A). blocks i (y ∷ drop (i + 1) xs)) (sym item) ∙ step i x (drop (i + 1) xs)))) ∙ left))
 
 -- A line and three lists of lines.
-pub line_and_lists : (before : List ℕ) (x : Line) (a b c : List Line) → before ++ (line_text x ++ codes "\n") ++ text_of a ++ text_of b ++ text_of c ≡ before ++ text_of (x ∷ (a ++ b ++ c))
+pub line_and_lists : (before : List ℕ) (x : Line) (a b c : List Line) → before ++ line_text x ++ codes "\n" ++ text_of a ++ text_of b ++ text_of c ≡ before ++ text_of (x ∷ (a ++ b ++ c))
 unfolding text_of
 line_and_lists before x a b c =
     let line = line_text x ++ codes "\n" in
-    append_assoc (before ++ line ++ text_of a) (text_of b) (text_of c)
+    ap (λ (t : List ℕ). t ++ text_of a ++ text_of b ++ text_of c) (append_assoc before (line_text x) (codes "\n"))
+    ∙ (append_assoc (before ++ line ++ text_of a) (text_of b) (text_of c)
     ∙ (append_assoc (before ++ line) (text_of a) (text_of b ++ text_of c)
     ∙ (append_assoc before line (text_of a ++ (text_of b ++ text_of c))
-    ∙ ap (λ (t : List ℕ). before ++ (line ++ t)) (sym (text_of_append (a ++ b) c ∙ (ap (λ (t : List ℕ). t ++ text_of c) (text_of_append a b) ∙ append_assoc (text_of a) (text_of b) (text_of c))))))
+    ∙ ap (λ (t : List ℕ). before ++ (line ++ t)) (sym (text_of_append (a ++ b) c ∙ (ap (λ (t : List ℕ). t ++ text_of c) (text_of_append a b) ∙ append_assoc (text_of a) (text_of b) (text_of c)))))))
 
 -- The calls, the wires, the line between, the marks and the lanes.
 pub journal_parts : (calls wires marks lanes : List Line)
-    → text_of calls ++ text_of wires ++ codes "timer\n" ++ text_of marks ++ text_of lanes ≡ text_of (calls ++ wires ++ (timer ∷ []) ++ marks ++ lanes)
+    → text_of calls ++ text_of wires ++ codes "timer\n" ++ text_of marks ++ text_of lanes ≡ text_of (calls ++ wires ++ (line.Timer ∷ []) ++ marks ++ lanes)
 unfolding text_of
 journal_parts calls wires marks lanes =
     let two = text_of_append calls wires in
-    let three = text_of_append (calls ++ wires) (timer ∷ []) ∙ ap (λ (t : List ℕ). t ++ codes "timer\n") two in
-    let four = text_of_append (calls ++ wires ++ (timer ∷ [])) marks ∙ ap (λ (t : List ℕ). t ++ text_of marks) three in
-    sym (text_of_append (calls ++ wires ++ (timer ∷ []) ++ marks) lanes ∙ ap (λ (t : List ℕ). t ++ text_of lanes) four)
+    let three = text_of_append (calls ++ wires) (line.Timer ∷ []) ∙ ap (λ (t : List ℕ). t ++ codes "timer\n") two in
+    let four = text_of_append (calls ++ wires ++ (line.Timer ∷ [])) marks ∙ ap (λ (t : List ℕ). t ++ text_of marks) three in
+    sym (text_of_append (calls ++ wires ++ (line.Timer ∷ []) ++ marks) lanes ∙ ap (λ (t : List ℕ). t ++ text_of lanes) four)

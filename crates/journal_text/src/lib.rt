@@ -3,10 +3,18 @@
 //! `write_journal` appends the one spelling of a journal.
 #![tactic(auto)]
 
+mod draft;
+mod fault;
 mod lines;
+mod numbers;
+mod open;
+mod reading;
+mod said;
 mod words;
 mod writing;
 
+pub use fault::JournalFault;
+pub use reading::read_journal;
 pub use writing::write_journal;
 
 #[cfg(test)]

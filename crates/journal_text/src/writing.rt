@@ -56,7 +56,8 @@ fn put_calls(text: &mut String, calls: &[CallLog]) -> Result<(), NoMemory>
 fn put_one_call(text: &mut String, it: &CallLog) -> Result<(), NoMemory>
     ensures { OnOk result (string_bytes text.new ≡ string_bytes text.old ++ text_of (call_lines it.now)) }
 {
-    put_call(text, it)?;
+    put_call(text, it.call, it.first, it.width, it.lane, it.moment)?;
+    text.push_str("\n")?;
     put_entries(text, it.log.list())
 }
 
@@ -77,6 +78,7 @@ fn put_one_wire(text: &mut String, server: u64, it: &WireLog) -> Result<(), NoMe
     ensures { OnOk result (string_bytes text.new ≡ string_bytes text.old ++ text_of (one_wire server it.now)) }
 {
     put_wire(text, server, it.how)?;
+    text.push_str("\n")?;
     put_outs(text, it.out.list())?;
     put_cames(text, it.came.list())?;
     put_losses(text, it.losses.list())?;
@@ -100,5 +102,6 @@ fn put_one_lane(text: &mut String, number: u64, it: &LaneLog) -> Result<(), NoMe
     ensures { OnOk result (string_bytes text.new ≡ string_bytes text.old ++ text_of (one_lane number it.now)) }
 {
     put_lane(text, number)?;
+    text.push_str("\n")?;
     put_cancels(text, it.cancels.list())
 }

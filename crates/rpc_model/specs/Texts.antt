@@ -22,6 +22,8 @@ use Rattle.rpc_model.specs.declared.journal.LossNote.{LossNote}
 use Rattle.rpc_model.specs.declared.journal.Fired.{Fired}
 use Rattle.rpc_model.specs.declared.journal.LaneLog.{LaneLog}
 use Rattle.rpc_model.specs.declared.journal.CancelNote.{CancelNote}
+use Rattle.rpc_model.specs.declared.line.Line.{Line}
+use Rattle.rpc_model.specs.declared.line.Line.TheVariants as line
 
 -- ---- words
 
@@ -70,44 +72,31 @@ how_word Full = codes "full"
 
 -- ---- lines
 
--- a line of a journal; a call and its entries are lines of their own, and so are a wire and its lists, and a lane and its cancels
-pub data Line : Type 0 where
-  call : (number first width lane moment : ℕ) → Line
-  entry : Entry → Line
-  wire : (server : ℕ) → How → Line
-  out : Sent → Line
-  came : Came → Line
-  loss : LossNote → Line
-  timer : Line
-  mark : Fired → Line
-  lane : ℕ → Line
-  cancel : CancelNote → Line
-
 -- the first word of a line
 abbrev pub first_word : Line → List ℕ
-first_word (call number first width on moment) = codes "call"
-first_word (entry e) = codes "e"
-first_word (wire server how) = codes "wire"
-first_word (out s) = codes "out"
-first_word (came c) = codes "in"
-first_word (loss l) = codes "loss"
-first_word timer = codes "timer"
-first_word (mark m) = codes "mark"
-first_word (lane n) = codes "lane"
-first_word (cancel c) = codes "cancel"
+first_word (line.Call number first width on moment) = codes "call"
+first_word (line.Entry e) = codes "e"
+first_word (line.Wire server how) = codes "wire"
+first_word (line.Out s) = codes "out"
+first_word (line.In c) = codes "in"
+first_word (line.Loss l) = codes "loss"
+first_word line.Timer = codes "timer"
+first_word (line.Mark m) = codes "mark"
+first_word (line.Lane n) = codes "lane"
+first_word (line.Cancel c) = codes "cancel"
 
 -- its other words
 abbrev pub other_words : Line → List (List ℕ)
-other_words (call number first width on moment) = decimal number ∷ decimal first ∷ decimal width ∷ decimal on ∷ decimal moment ∷ []
-other_words (entry e) = decimal e.moment ∷ (event_words e.event ++ origin_words e.from)
-other_words (wire server how) = decimal server ∷ how_word how ∷ []
-other_words (out s) = decimal s.id ∷ hex_word s.payload ∷ []
-other_words (came c) = decimal c.id ∷ decimal c.code ∷ hex_word c.payload ∷ fate_words c.fate
-other_words (loss l) = decimal l.id ∷ decimal l.code ∷ decimal l.after ∷ fate_words l.fate
-other_words timer = []
-other_words (mark m) = decimal m.due ∷ decimal m.now ∷ decimal m.id ∷ decimal m.code ∷ fate_words m.fate
-other_words (lane n) = decimal n ∷ []
-other_words (cancel c) = decimal c.id ∷ fate_words c.fate
+other_words (line.Call number first width on moment) = decimal number ∷ decimal first ∷ decimal width ∷ decimal on ∷ decimal moment ∷ []
+other_words (line.Entry e) = decimal e.moment ∷ (event_words e.event ++ origin_words e.from)
+other_words (line.Wire server how) = decimal server ∷ how_word how ∷ []
+other_words (line.Out s) = decimal s.id ∷ hex_word s.payload ∷ []
+other_words (line.In c) = decimal c.id ∷ decimal c.code ∷ hex_word c.payload ∷ fate_words c.fate
+other_words (line.Loss l) = decimal l.id ∷ decimal l.code ∷ decimal l.after ∷ fate_words l.fate
+other_words line.Timer = []
+other_words (line.Mark m) = decimal m.due ∷ decimal m.now ∷ decimal m.id ∷ decimal m.code ∷ fate_words m.fate
+other_words (line.Lane n) = decimal n ∷ []
+other_words (line.Cancel c) = decimal c.id ∷ fate_words c.fate
 
 -- a line without its newline
 abbrev pub line_text : Line → List ℕ
@@ -121,11 +110,11 @@ text_of (l ∷ ls) = line_text l ++ codes "\n" ++ text_of ls
 -- ---- the journal
 
 abbrev pub call_lines : CallLog → List Line
-call_lines c = call c.call c.first c.width c.lane c.moment ∷ map entry c.log
+call_lines c = line.Call c.call c.first c.width c.lane c.moment ∷ map line.Entry c.log
 
 -- the wire of a server, with its lists
 abbrev pub one_wire : ℕ → WireLog → List Line
-one_wire server w = wire server w.how ∷ (map out w.out ++ map came w.came ++ map loss w.losses)
+one_wire server w = line.Wire server w.how ∷ (map line.Out w.out ++ map line.In w.came ++ map line.Loss w.losses)
 
 -- the wires from this number on
 abbrev pub wire_lines : ℕ → List WireLog → List Line
@@ -133,7 +122,7 @@ wire_lines server [] = []
 wire_lines server (w ∷ ws) = one_wire server w ++ wire_lines (server + 1) ws
 
 abbrev pub one_lane : ℕ → LaneLog → List Line
-one_lane n l = lane n ∷ map cancel l.cancels
+one_lane n l = line.Lane n ∷ map line.Cancel l.cancels
 
 -- the lanes from this number on
 abbrev pub lane_lines : ℕ → List LaneLog → List Line
@@ -142,7 +131,7 @@ lane_lines n (l ∷ ls) = one_lane n l ++ lane_lines (n + 1) ls
 
 -- the calls, the wires, the fired marks, the lanes
 unfoldable pub journal_lines : Journal → List Line
-journal_lines j = flat_map call_lines j.calls ++ wire_lines 0 j.wires ++ (timer ∷ []) ++ map mark j.marks ++ lane_lines 0 j.lanes
+journal_lines j = flat_map call_lines j.calls ++ wire_lines 0 j.wires ++ (line.Timer ∷ []) ++ map line.Mark j.marks ++ lane_lines 0 j.lanes
 
 unfoldable pub journal_text : Journal → List ℕ
 journal_text j = text_of (journal_lines j)

@@ -13,6 +13,7 @@ mod event;
 mod journal;
 mod laws;
 mod limits;
+mod line;
 mod script;
 mod sent;
 mod told;
@@ -37,6 +38,7 @@ pub use limits::{
     RETRY_LIMIT, SCRIPT_LIMIT, SERVER_LIMIT, SERVER_NAME_LIMIT, SIM_CALL_LIMIT, SIM_WEIGHT_LIMIT,
     SLOT_LIMIT, SUB_LIMIT, TEXT_LIMIT, WAIT_LIMIT,
 };
+pub use line::Line;
 pub use script::{Act, Cause, Mode, Script, Serve};
 pub use sent::Sent;
 pub use told::Told;

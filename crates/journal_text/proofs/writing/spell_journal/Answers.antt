@@ -1,7 +1,8 @@
 -- The parts are the text of the journal.
 use Rattle.std.proofs.Common.{◌≡◌, ℕ, List, ◌++◌, map, string_bytes, ap, ◌∙◌}
 use Rattle.std.specs.List.{flat_map}
-use Rattle.rpc_model.specs.Texts.{text_of, call_lines, wire_lines, lane_lines, mark, journal_lines, journal_text}
+use Rattle.rpc_model.specs.Texts.{text_of, call_lines, wire_lines, lane_lines, journal_lines, journal_text}
+use Rattle.rpc_model.specs.declared.line.Line.TheVariants as line
 use Rattle.journal_text.proofs.Lists.{journal_parts}
 use Rattle.journal_text.proofs.writing.spell_journal.Goals as goal
 
@@ -19,5 +20,5 @@ returns c =
     let wires = c.list-2.ensures in
     let marks = c.list-3.ensures in
     let lanes = c.list-4.ensures in
-    let whole = journal_parts calls (wire_lines 0 j.wires) (map mark j.marks) (lane_lines 0 j.lanes) in
+    let whole = journal_parts calls (wire_lines 0 j.wires) (map line.Mark j.marks) (lane_lines 0 j.lanes) in
     cc
