@@ -1,0 +1,11 @@
+pub mod Plan
+pub mod Versions
+pub mod Faults
+pub mod Kinds
+pub mod Parallel
+pub mod Selective
+pub mod State
+pub mod Machine
+pub mod Marks
+pub mod Told
+pub mod Early
