@@ -1,1 +1,14 @@
 mod Rows
+mod Few
+mod Leaves
+mod Soon
+mod Sent
+mod Even
+mod Ended
+mod Replies
+mod Earned
+mod Completions
+mod Early
+mod Once
+mod Logs
+mod Headline

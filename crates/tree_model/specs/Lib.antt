@@ -9,3 +9,7 @@ pub mod Machine
 pub mod Marks
 pub mod Told
 pub mod Early
+pub mod Soon
+pub mod Completions
+pub mod Earned
+pub mod Logs

@@ -66,8 +66,8 @@ fold_from kinds [] fail so_far fails = Good (unwrap_or so_far [])
 fold_from kinds (part ∷ parts) fail so_far fails = fold_on (fold_from kinds parts fail) so_far fails fail (kinds.merge part.merge so_far part.index part.text)
 
 -- the parts, in rising order of their subs, are merged, where so many subs failed already and this many may not
-abbrev pub fold : {M G : Type 0} → Kinds M G → List (Part G) → ℕ → ℕ → End
-fold kinds parts fails fail = fold_from kinds parts fail None fails
+abbrev pub fold_parts : {M G : Type 0} → Kinds M G → List (Part G) → ℕ → ℕ → End
+fold_parts kinds parts fails fail = fold_from kinds parts fail None fails
 
 -- ---- the end, from the subs' ends by index, none where a sub hasn't ended
 
@@ -107,14 +107,14 @@ parts_of merges ends = parts_from 0 merges ends
 abbrev pub judged : {M G : Type 0} → Kinds M G → Limits → List G → List (Option End) → Option End
 judged kinds limits merges ends =
     if nat_le limits.fail (bads ends) then Some (Bad ETOOMANYFAILS)
-    else if nat_le limits.ok (goods ends) || nat_le limits.count (goods ends + bads ends) then Some (fold kinds (parts_of merges ends) (bads ends) limits.fail)
+    else if nat_le limits.ok (goods ends) || nat_le limits.count (goods ends + bads ends) then Some (fold_parts kinds (parts_of merges ends) (bads ends) limits.fail)
     else None
 
 -- the end that the node's deadline brings: each sub that hasn't ended has failed
 abbrev pub par_deadline : {M G : Type 0} → Kinds M G → Limits → List G → List (Option End) → End
 par_deadline kinds limits merges ends =
     let fails = limits.count - goods ends in
-    if nat_le limits.fail fails then Bad ERPCTIMEDOUT else fold kinds (parts_of merges ends) fails limits.fail
+    if nat_le limits.fail fails then Bad ERPCTIMEDOUT else fold_parts kinds (parts_of merges ends) fails limits.fail
 
 -- ---- the same from the completions: the subs that ended, each with its end, the last one first
 
