@@ -2,7 +2,9 @@ mod Rows
 mod Few
 mod Leaves
 mod Soon
-mod Sent
+mod Sizes
+mod Sends
+mod Requests
 mod Even
 mod Ended
 mod Replies

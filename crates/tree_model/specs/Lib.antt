@@ -13,3 +13,5 @@ pub mod Soon
 pub mod Completions
 pub mod Earned
 pub mod Logs
+pub mod Sends
+pub mod Requests
