@@ -5,6 +5,7 @@ mod Soon
 mod Sizes
 mod Sends
 mod Requests
+mod Paths
 mod Even
 mod Ended
 mod Replies

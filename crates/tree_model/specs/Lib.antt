@@ -15,3 +15,4 @@ pub mod Earned
 pub mod Logs
 pub mod Sends
 pub mod Requests
+pub mod Paths
