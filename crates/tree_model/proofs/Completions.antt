@@ -10,7 +10,8 @@ use Rattle.rpc_model.specs.declared.event.Event.TheVariants as event
 use Rattle.rpc_model.specs.Leaf.{leaf_step}
 use Rattle.tree_model.specs.declared.mapper.Mapped.{Mapped}
 use Rattle.tree_model.specs.declared.mapper.Mapped.TheVariants as answer
-use Rattle.tree_model.specs.Completions.{and_done, newly, children, completions, count_of, ends_root, ParallelEndsAreOfCompletions}
+use Rattle.tree_model.specs.Paths.{children}
+use Rattle.tree_model.specs.Completions.{and_done, newly, count_of}
 use Rattle.tree_model.proofs.Ended.{node-ended}
 use Rattle.tree_model.specs.declared.part.Part.{Part}
 use Rattle.tree_model.specs.Kinds.{Kinds}
@@ -27,7 +28,7 @@ module _ {M G : Type 0} (kinds : Kinds M G) where
   new-same None = refl
   new-same (Some end) = refl
 
-  newly-same : (k : ℕ) (ss : States M G) (done : List (ℕ × End)) → newly k ss ss done ≡ done
+  pub newly-same : (k : ℕ) (ss : States M G) (done : List (ℕ × End)) → newly k ss ss done ≡ done
   newly-same k last_state done = refl
   newly-same k (state_then s ss) done = ap (λ o. newly (k + 1) ss ss (and_done k o done)) (new-same (end_of s)) ∙ newly-same (k + 1) ss done
 
@@ -303,7 +304,7 @@ module _ {M G : Type 0} (kinds : Kinds M G) where
       started-then lim merges ends (waits plan) (waits plan) (waiting_states plans) more.states more.end done
       (start-subs lim merges (node + nodes plan) plans call [] m (ends ++ None ∷ []) done (one-ended lim merges ends done None plans h) none)
 
-  ends-waiting : (j n : ℕ) (plans : Plans M G) → count_of plans ≡ n → ends_from j n [] ≡ ends_of (waiting_states plans)
+  pub ends-waiting : (j n : ℕ) (plans : Plans M G) → count_of plans ≡ n → ends_from j n [] ≡ ends_of (waiting_states plans)
   ends-waiting j zero last_plan h = refl
   ends-waiting j zero (plan_then plan plans) h = absurd (omega (arith, h))
   ends-waiting j (suc n) last_plan h = absurd (omega (arith, h))
@@ -320,45 +321,6 @@ module _ {M G : Type 0} (kinds : Kinds M G) where
       let h = start-subs lim rule.merges (node + 1) plans call asked m [] [] (ends-waiting 0 (length rule.merges) plans counts) refl in
       subst (λ o. let now = (par_run node rule.timeout m lim rule.merges (par_started plans below o)).state in AreDone lim rule.merges (newly 0 (waiting_states plans) (children now) []) now) (sym none)
       (record { same_limits = refl; same_merges = refl; by_index = sym h.by_index; judgement = h.judgement })
-
-  -- ---- a run
-
-  step-done : (lim : Limits) (merges : List G) (done : List (ℕ × End)) (state : State M G) (call : ℕ) (e : Event) (m : ℕ) → AreDone lim merges done state
-      → ((node_of e == 0) ≡ true → is_deadline e ≡ false) → AreDone lim merges (newly 0 (children state) (children (step_at kinds 0 state call e m).state) done) (step_at kinds 0 state call e m).state
-  step-done lim merges done (waits plan) call e m h no_deadline = absurd h
-  step-done lim merges done (leaf_state chan request leaf) call e m h no_deadline = absurd h
-  step-done lim merges done (par_state par states) call e m h no_deadline = step-judged lim merges done 0 par states call e m h no_deadline
-  step-done lim merges done (sel_state sel states) call e m h no_deadline = absurd h
-
-  root-done : (lim : Limits) (merges : List G) (done : List (ℕ × End)) (state : State M G) (call : ℕ) (e : Event) (m : ℕ) → AreDone lim merges done state → ends_root e ≡ false
-      → AreDone lim merges (newly 0 (children state) (children (step kinds call state e m).state) done) (step kinds call state e m).state
-  root-done lim merges done state call (event.Reply node attempt code text) m h inner = step-done lim merges done state call (event.Reply node attempt code text) m h (λ _. refl)
-  root-done lim merges done state call (event.Lost node attempt code) m h inner = step-done lim merges done state call (event.Lost node attempt code) m h (λ _. refl)
-  root-done lim merges done state call (event.Backup node) m h inner = step-done lim merges done state call (event.Backup node) m h (λ _. refl)
-  root-done lim merges done state call (event.Deadline node) m h inner = step-done lim merges done state call (event.Deadline node) m h (λ here. let both = sym here ∙ inner in absurd (cc))
-  root-done lim merges done state call event.Cancel m h inner = absurd (cc)
-
-  run-done : (lim : Limits) (merges : List G) (call : ℕ) (events : List (Event × ℕ)) (run : Run M G) (done : List (ℕ × End)) → AreDone lim merges done run.state
-      → AllByRecursion (λ (timed : Event × ℕ). ends_root timed.0 ≡ false) events
-      → AreDone lim merges (completions kinds call run.state events done) (fold (λ (r : Run M G) timed. and_then r (step kinds call r.state timed.0 timed.1)) run events).state
-  run-done lim merges call [] run done h inner = h
-  run-done lim merges call (timed ∷ events) run done h inner =
-      let next = step kinds call run.state timed.0 timed.1 in
-      run-done lim merges call events (and_then run next) (newly 0 (children run.state) (children next.state) done) (root-done lim merges done run.state call timed.0 timed.1 h inner.0) inner.1
-
-  done-end : (lim : Limits) (merges : List G) (done : List (ℕ × End)) (state : State M G) → AreDone lim merges done state → end_of state ≡ par_end kinds lim merges done
-  done-end lim merges done (waits plan) h = absurd h
-  done-end lim merges done (leaf_state chan request leaf) h = absurd h
-  done-end lim merges done (par_state par states) h = h.judgement
-  done-end lim merges done (sel_state sel states) h = absurd h
-
-  pub parallel-ends : ParallelEndsAreOfCompletions kinds
-  parallel-ends rule plans call request begun events counts none inner =
-      let lim = limits rule (mapped kinds rule.maps request) in
-      let run = start kinds (par_plan rule plans) call request begun in
-      let first = newly 0 (waiting_states plans) (children run.state) [] in
-      done-end lim rule.merges (completions kinds call run.state events first) (machine kinds (par_plan rule plans) call request begun events).state
-      (run-done lim rule.merges call events run first (start-judged 0 rule plans call request begun counts none) inner)
 
   -- ---- the other ends
 

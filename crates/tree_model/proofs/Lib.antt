@@ -6,6 +6,7 @@ mod Sizes
 mod Sends
 mod Requests
 mod Paths
+mod Parallels
 mod Even
 mod Ended
 mod Replies

@@ -10,9 +10,9 @@ pub mod Marks
 pub mod Told
 pub mod Early
 pub mod Soon
-pub mod Completions
 pub mod Earned
 pub mod Logs
 pub mod Sends
 pub mod Requests
 pub mod Paths
+pub mod Completions
