@@ -7,6 +7,7 @@ mod Sends
 mod Requests
 mod Paths
 mod Parallels
+mod Versions
 mod Even
 mod Ended
 mod Replies
