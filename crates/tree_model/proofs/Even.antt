@@ -71,4 +71,4 @@ module _ {M G : Type 0} where
 
   -- each parallel node of a plan has as many mergers as subs
   pub plan-even : (chans : List (Chan M G)) (number call : ℕ) (p : Plan M G) → plan chans number call ≡ Some p → IsEven p
-  plan-even chans number call p e = subst EvenIf e (even-within (number + 1) chans call number)
+  plan-even chans number call p e = subst EvenIf e (even-within (suc number) chans call number)

@@ -10,6 +10,7 @@ use Rattle.rpc_model.specs.Leaf.{Leaf, started, ended, leaf_step}
 use Rattle.rpc_model.proofs.Runs.{IssuesFew, leaf_step-issues}
 use Rattle.tree_model.specs.declared.mapper.Mapped.{Mapped}
 use Rattle.tree_model.specs.declared.mapper.Mapped.TheVariants as answer
+use Rattle.tree_model.specs.Leaves.{EachLeaf, EachLeafOf}
 use Rattle.tree_model.specs.Kinds.{Kinds}
 use Rattle.tree_model.specs.Plan.{Rule, Plan, leaf_plan, par_plan, sel_plan, Plans, last_plan, plan_then}
 use Rattle.tree_model.specs.Versions.{nodes}
@@ -18,24 +19,16 @@ use Rattle.tree_model.specs.Selective.{next_try}
 use Rattle.tree_model.specs.State.{State, waits, leaf_state, par_state, sel_state, States, last_state, state_then, Run, Below, end_of, waiting_states, run_then, run_beside, beside, quiet, and_then, size}
 use Rattle.tree_model.specs.Machine.{par_started, sub_started, where_ended, start_at, start_subs, start_tries, start, node_of, new_end, leaf_run, par_at, par_stepped, sel_at, sel_stepped, step_tries, while_open, try_ended, try_run, is_left, start_waiting, step_at, step_subs, step, cancelled, machine}
 
+-- it holds at a start, and a step and a cancel keep it
+pub record IsKept (P : LeafChan → Leaf → Type 0) : Type 0 where
+  pub at_start : (chan : LeafChan) → P chan started
+  pub at_step : (chan : LeafChan) (leaf : Leaf) (e : Event) → P chan leaf → P chan (leaf_step chan.retry leaf e)
+  pub at_cancel : (chan : LeafChan) (leaf : Leaf) → P chan leaf → P chan (ended leaf (Bad ECANCELED))
+
+abbrev pub IssuedFew : LeafChan → Leaf → Type 0
+IssuedFew chan leaf = leaf.issued ≤ chan.retry + 1
+
 module _ {M G : Type 0} (kinds : Kinds M G) where
-  abbrev mutual
-    pub EachLeaf : (LeafChan → Leaf → Type 0) → State M G → Type 0
-    EachLeaf P (waits plan) = Unit {0}
-    EachLeaf P (leaf_state chan request leaf) = P chan leaf
-    EachLeaf P (par_state par states) = EachLeafOf P states
-    EachLeaf P (sel_state sel states) = EachLeafOf P states
-
-    pub EachLeafOf : (LeafChan → Leaf → Type 0) → States M G → Type 0
-    EachLeafOf P last_state = Unit {0}
-    EachLeafOf P (state_then state states) = EachLeaf P state × EachLeafOf P states
-
-  -- it holds at a start, and a step and a cancel keep it
-  pub record IsKept (P : LeafChan → Leaf → Type 0) : Type 0 where
-    pub at_start : (chan : LeafChan) → P chan started
-    pub at_step : (chan : LeafChan) (leaf : Leaf) (e : Event) → P chan leaf → P chan (leaf_step chan.retry leaf e)
-    pub at_cancel : (chan : LeafChan) (leaf : Leaf) → P chan leaf → P chan (ended leaf (Bad ECANCELED))
-
   each-waits : (P : LeafChan → Leaf → Type 0) (plans : Plans M G) → EachLeafOf P (waiting_states plans)
   each-waits P last_plan = tt
   each-waits P (plan_then plan plans) = (tt, each-waits P plans)
@@ -156,16 +149,11 @@ module _ {M G : Type 0} (kinds : Kinds M G) where
 
   -- ---- a leaf issues at most one attempt more than it may retry
 
-  IssuedFew : LeafChan → Leaf → Type 0
-  IssuedFew chan leaf = leaf.issued ≤ chan.retry + 1
-
   few-step : (chan : LeafChan) (before now : Leaf) → IssuesFew chan.retry before now → IssuedFew chan before → IssuedFew chan now
-  unfolding IssuedFew
   few-step chan before now (inl same) h = omega (arith, same, h)
   few-step chan before now (inr more) h = let a = more.0 in let b = more.1 in omega (arith, a, b)
 
   few-kept : IsKept IssuedFew
-  unfolding IssuedFew
   few-kept = record {
     at_start = λ chan. omega arith;
     at_step = λ chan leaf e h. few-step chan leaf (leaf_step chan.retry leaf e) (leaf_step-issues chan.retry leaf e) h;
@@ -174,5 +162,4 @@ module _ {M G : Type 0} (kinds : Kinds M G) where
 
   -- Each leaf of every run issues at most one attempt more than its channel may retry.
   pub attempts-few : (plan : Plan M G) (call : ℕ) (request : List ℕ) (begun : ℕ) (events : List (Event × ℕ)) → EachLeaf (λ chan leaf. leaf.issued ≤ chan.retry + 1) (machine kinds plan call request begun events).state
-  unfolding IssuedFew
   attempts-few plan call request begun events = machine-each IssuedFew few-kept plan call request begun events

@@ -16,4 +16,4 @@ mod Completions
 mod Early
 mod Once
 mod Logs
-mod Headline
+mod Heard

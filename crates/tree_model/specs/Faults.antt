@@ -40,7 +40,7 @@ module _ {M G : Type 0} where
 
   -- the depth of the channel of this number, over all its subs, tried or not
   abbrev pub depth : List (Chan M G) → ℕ → ℕ
-  depth chans number = depth_within (number + 1) chans number
+  depth chans number = depth_within (suc number) chans number
 
   -- the first of so many parts from this one on that no server has
   abbrev pub missing_from : PartChan M G → ℕ → ℕ → Option ℕ
@@ -60,4 +60,4 @@ module _ {M G : Type 0} where
 
   -- the first part without a server, in preorder, in the plan of the channel of this number for a call of this number
   abbrev pub missing_part : List (Chan M G) → ℕ → ℕ → Option ℕ
-  missing_part chans number call = missing_within (number + 1) chans call number
+  missing_part chans number call = missing_within (suc number) chans call number

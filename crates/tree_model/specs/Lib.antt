@@ -12,6 +12,8 @@ pub mod Early
 pub mod Soon
 pub mod Earned
 pub mod Logs
+pub mod Leaves
+pub mod Heard
 pub mod Sends
 pub mod Requests
 pub mod Paths

@@ -99,4 +99,4 @@ module _ {M G : Type 0} where
 
   -- The plan of the channel of this number in a list of channels, for a call of this number. A channel names only smaller numbers than its own, so channels nest no deeper than the number tells.
   abbrev pub plan : List (Chan M G) → ℕ → ℕ → Option (Plan M G)
-  plan chans number call = plan_within (number + 1) chans call number
+  plan chans number call = plan_within (suc number) chans call number
