@@ -14,6 +14,7 @@ pub mod Earned
 pub mod Logs
 pub mod Leaves
 pub mod Heard
+pub mod Laws
 pub mod Sends
 pub mod Requests
 pub mod Paths
