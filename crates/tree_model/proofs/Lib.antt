@@ -17,4 +17,4 @@ mod Early
 mod Once
 mod Logs
 mod Heard
-mod Laws
+mod Runs
