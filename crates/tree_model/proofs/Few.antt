@@ -49,7 +49,7 @@ module _ {M G : Type 0} (kinds : Kinds M G) where
   few-try n run states next None h hs = omega (arith, h)
   few-try n run states next (Some end) h hs = few-ended n run states next (next_try (is_left states) end) h hs
 
-  few-par : (plans : Plans M G) (below : Below M G) (o : Option End) → AreFew (nodes_of plans) below → AreFew (nodes_of plans) (par_started plans below o)
+  pub few-par : (plans : Plans M G) (below : Below M G) (o : Option End) → AreFew (nodes_of plans) below → AreFew (nodes_of plans) (par_started plans below o)
   few-par plans below None h = h
   few-par plans below (Some end) h = let w = all-wait plans in omega (arith, w)
 

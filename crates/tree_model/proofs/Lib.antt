@@ -17,4 +17,5 @@ mod Early
 mod Once
 mod Logs
 mod Heard
+mod MomentsStay
 mod Runs

@@ -14,6 +14,8 @@ pub mod Earned
 pub mod Logs
 pub mod Leaves
 pub mod Heard
+pub mod Fits
+pub mod Moments
 pub mod Laws
 pub mod Sends
 pub mod Requests
