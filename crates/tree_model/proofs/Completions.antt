@@ -1,13 +1,10 @@
 -- A parallel node's end is that of its completions, in the order in which they came.
-use Rattle.std.proofs.Common.{◌≡◌, ℕ, zero, suc, ◌+◌, ◌<◌, ◌⊎◌, inl, inr, Bool, true, false, cond, ◌==◌, ◌||◌, nat_lt, nat_le, fold, List, [], ◌∷◌, ◌++◌, length, Option, Some, None, arith, refl, ap, sym, ◌∙◌, subst, length-append}
+use Rattle.std.proofs.Common.{◌≡◌, ℕ, zero, suc, ◌+◌, ◌<◌, ◌⊎◌, inl, inr, Bool, true, false, cond, ◌==◌, ◌||◌, nat_lt, nat_le, List, [], ◌∷◌, ◌++◌, length, Option, Some, None, arith, refl, ap, sym, ◌∙◌, subst, length-append}
 use Rattle.std.proofs.lemmas.List.{append_assoc}
-use Rattle.std.specs.List.{AllByRecursion}
 use Rattle.rpc_model.specs.declared.codes.TheConstants.{ETOOMANYFAILS}
 use Rattle.rpc_model.specs.declared.event.End.{End}
 use Rattle.rpc_model.specs.declared.event.End.TheVariants.{Bad}
 use Rattle.rpc_model.specs.declared.event.Event.{Event}
-use Rattle.rpc_model.specs.declared.event.Event.TheVariants as event
-use Rattle.rpc_model.specs.Leaf.{leaf_step}
 use Rattle.tree_model.specs.declared.mapper.Mapped.{Mapped}
 use Rattle.tree_model.specs.declared.mapper.Mapped.TheVariants as answer
 use Rattle.tree_model.specs.Paths.{children}
@@ -18,8 +15,8 @@ use Rattle.tree_model.specs.Kinds.{Kinds}
 use Rattle.tree_model.specs.Plan.{Rule, Plan, par_plan, Plans, last_plan, plan_then}
 use Rattle.tree_model.specs.Versions.{nodes}
 use Rattle.tree_model.specs.Parallel.{Limits, and_part, bads, count_bad, count_good, end_at, ends_from, fold_parts, goods, parts_from, judged, limits, mapped, or_else, par_deadline, par_end, parts_of, refused}
-use Rattle.tree_model.specs.State.{State, waits, leaf_state, par_state, sel_state, States, last_state, state_then, Run, Below, Par, end_of, ends_of, waiting_states, run_beside, beside, quiet, and_then, size}
-use Rattle.tree_model.specs.Machine.{par_run, par_started, sub_started, where_ended, start_at, start_subs, start, node_of, is_deadline, new_end, leaf_run, par_at, par_stepped, while_open, step_at, step_subs, step, machine}
+use Rattle.tree_model.specs.State.{State, waits, leaf_state, par_state, sel_state, States, last_state, state_then, Run, Below, Par, end_of, ends_of, waiting_states, run_beside, beside, quiet, size}
+use Rattle.tree_model.specs.Machine.{par_run, par_started, sub_started, where_ended, start_at, start_subs, node_of, is_deadline, new_end, par_at, par_stepped, while_open, step_at, step_subs}
 
 module _ {M G : Type 0} (kinds : Kinds M G) where
   -- ---- the completions of a step

@@ -10,7 +10,6 @@ use Rattle.rpc_model.specs.declared.script.Act.{Act}
 use Rattle.rpc_model.specs.declared.script.Act.TheVariants.{Call, Cancel, Reply, Lose, Tick, Join}
 use Rattle.rpc_model.specs.declared.told.Told.{Told}
 use Rattle.rpc_model.specs.declared.told.Told.TheVariants.{Ended}
-use Rattle.rpc_model.specs.Leaf.{Leaf, leaf_step}
 use Rattle.rpc_model.specs.Machine.{Mark}
 use Rattle.tree_model.specs.Marks.{marks_left, Begun, apply, least_mark, is_before, set_mark, set_all, take_mark, mark_event, weave_at_most, weave_least, weave, finish_at_most, finish_least, finish}
 use Rattle.tree_model.specs.Told.{Script, Standing, begun, full, told_of, Replay, number_of, is_call, is_begun, is_full, change_first, stand_new, call_after, event_after, call_event, stand_joined, joined, joined_moment, join_end, join_tells, call_join, call_tells, after, tells, told_from}
@@ -21,8 +20,8 @@ use Rattle.tree_model.specs.Kinds.{script_kinds}
 use Rattle.tree_model.specs.declared.kinds.MapKind.{MapKind}
 use Rattle.tree_model.specs.declared.kinds.MergeKind.{MergeKind}
 use Rattle.tree_model.specs.Plan.{Plan, plan}
-use Rattle.tree_model.specs.State.{State, waits, leaf_state, par_state, sel_state, end_of, attempts, quiet}
-use Rattle.tree_model.specs.Machine.{node_of, leaf_run, step_at, step}
+use Rattle.tree_model.specs.State.{end_of, attempts}
+use Rattle.tree_model.specs.Machine.{step}
 
 -- ---- how many marks wait
 

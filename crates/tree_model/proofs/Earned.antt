@@ -189,6 +189,7 @@ module _ {M G : Type 0} (kinds : Kinds M G) where
 
   mutual
     unfolding StartsEarned StartEarned
+
     start-earned : (node : ℕ) (plan : Plan M G) (call : ℕ) (request : List ℕ) (m : ℕ) → StartsEarned (start_at kinds node plan call request m)
     start-earned node (leaf_plan leaf) call request m = (tt, λ g. g)
     start-earned node (par_plan rule plans) call request m =
@@ -277,6 +278,7 @@ module _ {M G : Type 0} (kinds : Kinds M G) where
 
   mutual
     unfolding BelowEarned
+
     step-earned : (node : ℕ) (state : State M G) (call : ℕ) (e : Event) (m : ℕ) → IsEarned state → IsEarned (step_at kinds node state call e m).state
     step-earned node (waits plan) call e m h = tt
     step-earned node (leaf_state chan request leaf) call e m h =
@@ -284,11 +286,11 @@ module _ {M G : Type 0} (kinds : Kinds M G) where
     step-earned node (par_state par states) call e m h =
         earned-open par.end (par_state par states) _ h
         (λ none. earned-either (node_of e == node) (par_at kinds par states e) (par_stepped kinds par (step_subs kinds (node + 1) states call e m)) (par-at-earned par states e (is_deadline e) h none)
-          (par-stepped-earned par (step_subs kinds (node + 1) states call e m) (h.1 none) (subs-step-earned (node + 1) states call e m h.2).0))
+        (par-stepped-earned par (step_subs kinds (node + 1) states call e m) (h.1 none) (subs-step-earned (node + 1) states call e m h.2).0))
     step-earned node (sel_state sel states) call e m h =
         earned-open sel.end (sel_state sel states) _ h
         (λ none. earned-either (node_of e == node) (sel_at sel states e) (sel_stepped sel (step_tries kinds (node + 1) states call e m sel.request)) (sel-at-earned sel states (is_deadline e) h)
-          (let t = tries-step-earned (node + 1) states call e m sel.request h.1 in (t.1, t.0)))
+        (let t = tries-step-earned (node + 1) states call e m sel.request h.1 in (t.1, t.0)))
 
     subs-step-earned : (node : ℕ) (states : States M G) (call : ℕ) (e : Event) (m : ℕ) → AreEarned states → BelowEarned (step_subs kinds node states call e m)
     subs-step-earned node last_state call e m h = (tt, λ g. absurd g)
@@ -306,7 +308,7 @@ module _ {M G : Type 0} (kinds : Kinds M G) where
         let more = tries-step-earned (node + size state) states call e m request h.1 in
         below-either (nat_lt (node_of e) (node + size state)) _ _
         (below-try run states (start_waiting kinds (node + size state) states call request m) (new_end (end_of state) (end_of run.state)) one
-          (λ g. earned-end run.state one (new-good (end_of state) (end_of run.state) g)) h.1 (waiting-step (node + size state) states call request m h.1))
+        (λ g. earned-end run.state one (new-good (end_of state) (end_of run.state) g)) h.1 (waiting-step (node + size state) states call request m h.1))
         ((h.0, more.0), λ g. inr (more.1 g))
 
   -- ---- a run

@@ -1,5 +1,5 @@
 -- What has an end stays as it is.
-use Rattle.std.proofs.Common.{◌≡◌, ℕ, true, false, cond, ◌==◌, List, Option, Some, None, refl, ap}
+use Rattle.std.proofs.Common.{◌≡◌, ℕ, true, false, cond, ◌==◌, Some, refl, ap}
 use Rattle.rpc_model.specs.declared.event.End.{End}
 use Rattle.rpc_model.specs.declared.event.Event.{Event}
 use Rattle.rpc_model.specs.declared.event.Event.TheVariants as event

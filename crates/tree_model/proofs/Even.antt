@@ -1,11 +1,11 @@
 -- A plan's parallel nodes have as many mergers as subs.
-use Rattle.std.proofs.Common.{◌≡◌, ℕ, zero, suc, ◌+◌, List, [], ◌∷◌, length, map, Option, Some, None, arith, refl, ap, sym, ◌∙◌, subst, slice_get}
+use Rattle.std.proofs.Common.{◌≡◌, ℕ, zero, suc, ◌+◌, List, [], ◌∷◌, length, Option, Some, None, arith, refl, sym, ◌∙◌, subst, slice_get}
 use Rattle.std.proofs.lemmas.List.{length-map}
 use Rattle.tree_model.specs.declared.chan.Chan.{Chan}
 use Rattle.tree_model.specs.declared.chan.Chan.TheVariants as chan
 use Rattle.tree_model.specs.declared.chan.PartChan.{PartChan}
 use Rattle.tree_model.specs.declared.chan.Sub.{Sub}
-use Rattle.tree_model.specs.Plan.{Rule, Plan, leaf_plan, par_plan, sel_plan, Plans, last_plan, plan_then, and_plan, plans_of, par_over, sel_over, rule_of, subs_of, tries, part_plans, copies, part_rule, chan_plan, plan_within, plan}
+use Rattle.tree_model.specs.Plan.{Rule, Plan, leaf_plan, par_plan, sel_plan, Plans, last_plan, plan_then, and_plan, plans_of, par_over, sel_over, rule_of, subs_of, tries, part_plans, copies, chan_plan, plan_within, plan}
 use Rattle.tree_model.specs.Completions.{count_of}
 
 length-copies : {X : Type 0} (count : ℕ) (x : X) → length (copies count x) ≡ count

@@ -1,15 +1,12 @@
 -- What the told ends of a script rest on.
-use Rattle.std.proofs.Common.{◌≡◌, ℕ, ◌+◌, ◌≤◌, ◌⊎◌, inl, inr, Bool, true, false, cond, ◌==◌, max, List, [], ◌∷◌, ◌++◌, Option, Some, None, arith, refl, ap, sym, ◌∙◌, subst, slice_get}
-use Rattle.std.specs.Prelude.{Contains}
+use Rattle.std.proofs.Common.{◌≡◌, ℕ, ◌+◌, ◌≤◌, ◌⊎◌, inl, inr, Bool, true, false, cond, ◌==◌, max, List, [], ◌∷◌, ◌++◌, Some, arith, refl, ap, sym, ◌∙◌, subst, slice_get}
 use Rattle.std.proofs.lemmas.Bool.Decides.{nat_tests}
 use Rattle.rpc_model.specs.declared.chan.LeafChan.{LeafChan}
-use Rattle.rpc_model.specs.declared.event.End.{End}
 use Rattle.rpc_model.specs.declared.event.End.TheVariants.{Good}
 use Rattle.rpc_model.specs.declared.event.Event.{Event}
 use Rattle.rpc_model.specs.declared.event.Event.TheVariants as event
 use Rattle.rpc_model.specs.declared.script.Act.{Act}
 use Rattle.rpc_model.specs.declared.script.Act.TheVariants.{Call, Cancel, Reply, Lose, Tick, Join}
-use Rattle.rpc_model.specs.declared.told.Told.TheVariants.{Ended}
 use Rattle.rpc_model.specs.Leaf.{Leaf}
 use Rattle.tree_model.specs.declared.kinds.MapKind.{MapKind}
 use Rattle.tree_model.specs.declared.kinds.MergeKind.{MergeKind}
@@ -23,7 +20,7 @@ use Rattle.tree_model.specs.Versions.{possible_attempts, possible_attempts_of}
 use Rattle.tree_model.specs.Parallel.{mapped}
 use Rattle.tree_model.specs.State.{State, waits, leaf_state, par_state, sel_state, States, last_state, state_then, attempts, attempts_of, size}
 use Rattle.tree_model.specs.Machine.{start, step, machine}
-use Rattle.tree_model.specs.Told.{Script, Replay, unbegun, after, told}
+use Rattle.tree_model.specs.Told.{Script, Replay, unbegun, after}
 use Rattle.tree_model.specs.Earned.{IsGood, AnswersLeaf, Answers, AnswersOneOf, HasLiveReply}
 use Rattle.tree_model.specs.Requests.{IsOf, SubsAreOf, TriesAreOf}
 use Rattle.tree_model.specs.Leaves.{EachLeaf, EachLeafOf}

@@ -1,5 +1,5 @@
 -- What holds of each leaf of a tree is kept, where a leaf's step keeps it.
-use Rattle.std.proofs.Common.{◌≡◌, ℕ, suc, ◌+◌, ◌≤◌, ◌⊎◌, inl, inr, Bool, true, false, cond, ◌==◌, nat_lt, fold, List, [], ◌∷◌, ◌++◌, Option, Some, None, is_none, arith, refl}
+use Rattle.std.proofs.Common.{ℕ, ◌+◌, ◌≤◌, inl, inr, Bool, true, false, cond, ◌==◌, nat_lt, fold, List, [], ◌∷◌, ◌++◌, Option, Some, None, is_none, arith}
 use Rattle.rpc_model.specs.declared.codes.TheConstants.{ECANCELED}
 use Rattle.rpc_model.specs.declared.chan.LeafChan.{LeafChan}
 use Rattle.rpc_model.specs.declared.event.End.{End}
@@ -12,11 +12,11 @@ use Rattle.tree_model.specs.declared.mapper.Mapped.{Mapped}
 use Rattle.tree_model.specs.declared.mapper.Mapped.TheVariants as answer
 use Rattle.tree_model.specs.Leaves.{EachLeaf, EachLeafOf}
 use Rattle.tree_model.specs.Kinds.{Kinds}
-use Rattle.tree_model.specs.Plan.{Rule, Plan, leaf_plan, par_plan, sel_plan, Plans, last_plan, plan_then}
+use Rattle.tree_model.specs.Plan.{Plan, leaf_plan, par_plan, sel_plan, Plans, last_plan, plan_then}
 use Rattle.tree_model.specs.Versions.{nodes}
 use Rattle.tree_model.specs.Parallel.{mapped, refused, Limits, limits, judged}
 use Rattle.tree_model.specs.Selective.{next_try}
-use Rattle.tree_model.specs.State.{State, waits, leaf_state, par_state, sel_state, States, last_state, state_then, Run, Below, end_of, waiting_states, run_then, run_beside, beside, quiet, and_then, size}
+use Rattle.tree_model.specs.State.{State, waits, leaf_state, par_state, sel_state, States, last_state, state_then, Run, Below, end_of, waiting_states, run_beside, beside, quiet, and_then, size}
 use Rattle.tree_model.specs.Machine.{par_started, sub_started, where_ended, start_at, start_subs, start_tries, start, node_of, new_end, leaf_run, par_at, par_stepped, sel_at, sel_stepped, step_tries, while_open, try_ended, try_run, is_left, start_waiting, step_at, step_subs, step, cancelled, machine}
 
 -- it holds at a start, and a step and a cancel keep it

@@ -454,11 +454,11 @@ call-ends script replay acts c at call chan text end count (Some tree) planned n
 call-ends script replay acts c at call chan text end count (Some tree) planned none (inl same) later h =
     subst (λ (d : ℕ). plan script.chans chan d ≡ Some tree → LaterEnds script replay (Call at d chan text) acts c end count) same
     (λ p.
-      let is = ap (call_after script replay (max replay.reached at) c text) p in
-      let s = stand_new (is_full script replay) c tree text (max replay.reached at) in
-      let here : (number_of s == c) ≡ true = ap (λ n. n == c) (stand_new-number (is_full script replay) c tree text (max replay.reached at)) ∙ test-same c c refl in
-      let found = find-none-pushed c replay.calls s none ∙ ap (λ v. cond v (Some s) None) here in
-      new-ends script replay acts c at chan text end count tree (is_full script replay) p refl (ap (λ (r : Replay). find (is_call c) r.calls) is ∙ found))
+    let is = ap (call_after script replay (max replay.reached at) c text) p in
+    let s = stand_new (is_full script replay) c tree text (max replay.reached at) in
+    let here : (number_of s == c) ≡ true = ap (λ n. n == c) (stand_new-number (is_full script replay) c tree text (max replay.reached at)) ∙ test-same c c refl in
+    let found = find-none-pushed c replay.calls s none ∙ ap (λ v. cond v (Some s) None) here in
+    new-ends script replay acts c at chan text end count tree (is_full script replay) p refl (ap (λ (r : Replay). find (is_call c) r.calls) is ∙ found))
     planned later h
 
 line-ends : (script : Script) (replay : Replay) (act : Act) (acts : List Act) (c : ℕ) (end : End) (count : ℕ) → find (is_call c) replay.calls ≡ None → LaterEnds script replay act acts c end count

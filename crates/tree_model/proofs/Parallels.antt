@@ -1,5 +1,5 @@
 -- Each parallel node of a call stands by its completions, wherever it is in the tree.
-use Rattle.std.proofs.Common.{◌≡◌, ℕ, ◌+◌, ◌⊎◌, inl, inr, Bool, true, false, cond, ◌==◌, fold, List, [], ◌∷◌, ◌++◌, length, Option, Some, None, is_none, refl, ap, sym, ◌∙◌, subst}
+use Rattle.std.proofs.Common.{◌≡◌, ℕ, ◌+◌, inl, inr, Bool, true, false, cond, ◌==◌, fold, List, [], ◌∷◌, length, Option, Some, None, refl, ap, sym, ◌∙◌, subst}
 use Rattle.rpc_model.specs.declared.codes.TheConstants.{ECANCELED}
 use Rattle.rpc_model.specs.declared.event.End.{End}
 use Rattle.rpc_model.specs.declared.event.End.TheVariants.{Bad}
@@ -7,14 +7,14 @@ use Rattle.rpc_model.specs.declared.event.Event.{Event}
 use Rattle.rpc_model.specs.declared.event.Event.TheVariants as event
 use Rattle.tree_model.specs.Kinds.{Kinds}
 use Rattle.tree_model.specs.Plan.{Rule, Plan, par_plan, Plans}
-use Rattle.tree_model.specs.Parallel.{Limits, limits, mapped, refused, par_end, par_deadline, ends_from}
-use Rattle.tree_model.specs.State.{Par, State, waits, leaf_state, par_state, sel_state, States, Run, end_of, ends_of, waiting_states, quiet, and_then}
+use Rattle.tree_model.specs.Parallel.{limits, mapped, refused, par_end, par_deadline, ends_from}
+use Rattle.tree_model.specs.State.{Par, State, waits, leaf_state, par_state, sel_state, States, Run, ends_of, waiting_states, quiet, and_then}
 use Rattle.tree_model.specs.Machine.{par_run, par_started, start_at, start_subs, node_of, is_deadline, while_open, par_stepped, step_subs, step_at, step, start, machine, cancelled}
 use Rattle.tree_model.specs.Paths.{children, node_at}
 use Rattle.tree_model.specs.Completions.{newly, newly_at, children_at, count_of, completions_from, completions, EndsBy, StandsBy, NodeStandsBy, ParallelNodesStandByCompletions}
 use Rattle.tree_model.proofs.Ended.{node-ended}
 use Rattle.tree_model.proofs.Completions.{IsJudged, AreDone, newly-same, step-judged, start-judged, ends-waiting}
-use Rattle.tree_model.proofs.Paths.{Moved, NodeMoved, AtMoved, step-moved, start-moved}
+use Rattle.tree_model.proofs.Paths.{NodeMoved, AtMoved, step-moved, start-moved}
 
 module _ {M G : Type 0} (kinds : Kinds M G) (path : List ℕ) (rule : Rule M G) (plans : Plans M G) where
   -- how a node stands after it went from one state to another

@@ -1,22 +1,19 @@
 -- In a step of a call each node of the tree takes a step of its own, is started, or stays as it is.
-use Rattle.std.proofs.Common.{◌≡◌, ℕ, zero, suc, ◌+◌, ◌⊎◌, inl, inr, Bool, true, false, cond, ◌==◌, nat_lt, fold, List, [], ◌∷◌, ◌++◌, Option, Some, None, is_none, refl, ap, sym, ◌∙◌, subst}
+use Rattle.std.proofs.Common.{◌≡◌, ℕ, zero, suc, ◌+◌, ◌⊎◌, inl, inr, Bool, true, false, cond, ◌==◌, nat_lt, fold, List, [], ◌∷◌, ◌++◌, Option, Some, None, refl, ap, sym, ◌∙◌, subst}
 use Rattle.std.proofs.lemmas.List.Sums.{fold-append}
-use Rattle.rpc_model.specs.declared.chan.LeafChan.{LeafChan}
-use Rattle.rpc_model.specs.declared.codes.TheConstants.{ERPCTIMEDOUT}
 use Rattle.rpc_model.specs.declared.event.End.{End}
-use Rattle.rpc_model.specs.declared.event.End.TheVariants.{Bad}
 use Rattle.rpc_model.specs.declared.event.Event.{Event}
 use Rattle.rpc_model.specs.declared.event.Event.TheVariants as event
-use Rattle.rpc_model.specs.Leaf.{Leaf, leaf_step}
+use Rattle.rpc_model.specs.Leaf.{leaf_step}
 use Rattle.tree_model.specs.declared.mapper.Mapped.{Mapped}
 use Rattle.tree_model.specs.declared.mapper.Mapped.TheVariants as answer
 use Rattle.tree_model.specs.Kinds.{Kinds}
 use Rattle.tree_model.specs.Plan.{Plan, leaf_plan, par_plan, sel_plan, Plans, last_plan, plan_then}
 use Rattle.tree_model.specs.Versions.{nodes}
-use Rattle.tree_model.specs.Parallel.{mapped, refused, Limits, limits, judged, par_deadline}
+use Rattle.tree_model.specs.Parallel.{mapped, refused, Limits, limits, judged}
 use Rattle.tree_model.specs.Selective.{next_try}
-use Rattle.tree_model.specs.State.{Par, Sel, State, waits, leaf_state, par_state, sel_state, States, last_state, state_then, Run, Below, end_of, ends_of, size, waiting_states, still, beside, run_then, run_beside, quiet, and_then}
-use Rattle.tree_model.specs.Machine.{par_started, sub_started, where_ended, start_at, start_subs, start_tries, node_of, is_deadline, new_end, leaf_run, par_at, par_stepped, sel_at, sel_stepped, while_open, try_ended, try_run, is_left, start_waiting, step_at, step_subs, step_tries, step, start, machine, cancelled}
+use Rattle.tree_model.specs.State.{State, waits, leaf_state, par_state, sel_state, States, last_state, state_then, Run, Below, end_of, size, waiting_states, run_beside, quiet, and_then}
+use Rattle.tree_model.specs.Machine.{par_started, sub_started, where_ended, start_at, start_subs, start_tries, node_of, new_end, leaf_run, par_at, par_stepped, sel_at, sel_stepped, while_open, try_ended, try_run, is_left, start_waiting, step_at, step_subs, step_tries, step, start, machine, cancelled}
 use Rattle.tree_model.specs.Paths.{plans_below, children, child, in_child, node_at}
 use Rattle.tree_model.proofs.Ended.{node-ended, step-ended}
 

@@ -152,12 +152,12 @@ module _ {M G : Type 0} (kinds : Kinds M G) where
     step-from node (par_state par states) call e m g =
         from-open (HaveGoodLeaf states ⊎ ((par.end ≡ None) × AnswersOneOf (node + 1) states e)) par.end (par_state par states) _ (λ h. inl h)
         (λ none. from-either (HaveGoodLeaf states ⊎ ((par.end ≡ None) × AnswersOneOf (node + 1) states e)) (node_of e == node) (par_at kinds par states e) (par_stepped kinds par (step_subs kinds (node + 1) states call e m)) (λ here h. inl h)
-          (lift (HaveGoodLeaf states) (AnswersOneOf (node + 1) states e) (HaveGoodLeaf (step_subs kinds (node + 1) states call e m).states) (subs-step-from (node + 1) states call e m) (HaveGoodLeaf states) ((par.end ≡ None) × AnswersOneOf (node + 1) states e) (λ p. p) (λ q. (none, q))))
+        (lift (HaveGoodLeaf states) (AnswersOneOf (node + 1) states e) (HaveGoodLeaf (step_subs kinds (node + 1) states call e m).states) (subs-step-from (node + 1) states call e m) (HaveGoodLeaf states) ((par.end ≡ None) × AnswersOneOf (node + 1) states e) (λ p. p) (λ q. (none, q))))
         g
     step-from node (sel_state sel states) call e m g =
         from-open (HaveGoodLeaf states ⊎ ((sel.end ≡ None) × AnswersOneOf (node + 1) states e)) sel.end (sel_state sel states) _ (λ h. inl h)
         (λ none. from-either (HaveGoodLeaf states ⊎ ((sel.end ≡ None) × AnswersOneOf (node + 1) states e)) (node_of e == node) (sel_at sel states e) (sel_stepped sel (step_tries kinds (node + 1) states call e m sel.request)) (λ here h. inl h)
-          (lift (HaveGoodLeaf states) (AnswersOneOf (node + 1) states e) (HaveGoodLeaf (step_tries kinds (node + 1) states call e m sel.request).states) (tries-step-from (node + 1) states call e m sel.request) (HaveGoodLeaf states) ((sel.end ≡ None) × AnswersOneOf (node + 1) states e) (λ p. p) (λ q. (none, q))))
+        (lift (HaveGoodLeaf states) (AnswersOneOf (node + 1) states e) (HaveGoodLeaf (step_tries kinds (node + 1) states call e m sel.request).states) (tries-step-from (node + 1) states call e m sel.request) (HaveGoodLeaf states) ((sel.end ≡ None) × AnswersOneOf (node + 1) states e) (λ p. p) (λ q. (none, q))))
         g
 
     subs-step-from : (node : ℕ) (states : States M G) (call : ℕ) (e : Event) (m : ℕ) → AreFrom (HaveGoodLeaf states ⊎ AnswersOneOf node states e) (step_subs kinds node states call e m)
@@ -165,10 +165,10 @@ module _ {M G : Type 0} (kinds : Kinds M G) where
     subs-step-from node (state_then state states) call e m g =
         from-below (HaveGoodLeaf (state_then state states) ⊎ AnswersOneOf node (state_then state states) e) (nat_lt (node_of e) (node + size state)) _ _
         (λ h. from-then (HaveGoodLeaf (state_then state states) ⊎ AnswersOneOf node (state_then state states) e) (step_at kinds node state call e m).state states
-          (lift (HasGoodLeaf state) (Answers node state e) (HasGoodLeaf (step_at kinds node state call e m).state) (step-from node state call e m) (HaveGoodLeaf (state_then state states)) (AnswersOneOf node (state_then state states) e) (λ p. inl p) (λ q. inl q))
-          (λ p. inl (inr p)) h)
+        (lift (HasGoodLeaf state) (Answers node state e) (HasGoodLeaf (step_at kinds node state call e m).state) (step-from node state call e m) (HaveGoodLeaf (state_then state states)) (AnswersOneOf node (state_then state states) e) (λ p. inl p) (λ q. inl q))
+        (λ p. inl (inr p)) h)
         (λ h. from-then (HaveGoodLeaf (state_then state states) ⊎ AnswersOneOf node (state_then state states) e) state (step_subs kinds (node + size state) states call e m).states (λ p. inl (inl p))
-          (lift (HaveGoodLeaf states) (AnswersOneOf (node + size state) states e) (HaveGoodLeaf (step_subs kinds (node + size state) states call e m).states) (subs-step-from (node + size state) states call e m) (HaveGoodLeaf (state_then state states)) (AnswersOneOf node (state_then state states) e) (λ p. inr p) (λ q. inr q)) h)
+        (lift (HaveGoodLeaf states) (AnswersOneOf (node + size state) states e) (HaveGoodLeaf (step_subs kinds (node + size state) states call e m).states) (subs-step-from (node + size state) states call e m) (HaveGoodLeaf (state_then state states)) (AnswersOneOf node (state_then state states) e) (λ p. inr p) (λ q. inr q)) h)
         g
 
     tries-step-from : (node : ℕ) (states : States M G) (call : ℕ) (e : Event) (m : ℕ) (request : List ℕ) → AreFrom (HaveGoodLeaf states ⊎ AnswersOneOf node states e) (step_tries kinds node states call e m request)
@@ -177,10 +177,10 @@ module _ {M G : Type 0} (kinds : Kinds M G) where
         let run = step_at kinds node state call e m in
         from-below (HaveGoodLeaf (state_then state states) ⊎ AnswersOneOf node (state_then state states) e) (nat_lt (node_of e) (node + size state)) _ _
         (from-try (HaveGoodLeaf (state_then state states) ⊎ AnswersOneOf node (state_then state states) e) run states (start_waiting kinds (node + size state) states call request m) (new_end (end_of state) (end_of run.state))
-          (lift (HasGoodLeaf state) (Answers node state e) (HasGoodLeaf (step_at kinds node state call e m).state) (step-from node state call e m) (HaveGoodLeaf (state_then state states)) (AnswersOneOf node (state_then state states) e) (λ p. inl p) (λ q. inl q))
-          (λ p. inl (inr p)) (λ p. inl (inr (waiting-from (node + size state) states call request m p))))
+        (lift (HasGoodLeaf state) (Answers node state e) (HasGoodLeaf (step_at kinds node state call e m).state) (step-from node state call e m) (HaveGoodLeaf (state_then state states)) (AnswersOneOf node (state_then state states) e) (λ p. inl p) (λ q. inl q))
+        (λ p. inl (inr p)) (λ p. inl (inr (waiting-from (node + size state) states call request m p))))
         (λ h. from-then (HaveGoodLeaf (state_then state states) ⊎ AnswersOneOf node (state_then state states) e) state (step_tries kinds (node + size state) states call e m request).states (λ p. inl (inl p))
-          (lift (HaveGoodLeaf states) (AnswersOneOf (node + size state) states e) (HaveGoodLeaf (step_tries kinds (node + size state) states call e m request).states) (tries-step-from (node + size state) states call e m request) (HaveGoodLeaf (state_then state states)) (AnswersOneOf node (state_then state states) e) (λ p. inr p) (λ q. inr q)) h)
+        (lift (HaveGoodLeaf states) (AnswersOneOf (node + size state) states e) (HaveGoodLeaf (step_tries kinds (node + size state) states call e m request).states) (tries-step-from (node + size state) states call e m request) (HaveGoodLeaf (state_then state states)) (AnswersOneOf node (state_then state states) e) (λ p. inr p) (λ q. inr q)) h)
         g
 
   -- ---- a run

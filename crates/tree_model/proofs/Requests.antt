@@ -159,7 +159,7 @@ module _ {M G : Type 0} (kinds : Kinds M G) where
         let run = step_at kinds node state call e m in
         tries-either request (plan_then plan plans) (nat_lt (node_of e) (node + size state)) _ _
         (of-try request plan plans run states (start_waiting kinds (node + size state) states call request m) (new_end (end_of state) (end_of run.state)) (step-of node plan state call e m request h.0) h.1
-          (waiting-of (node + size state) plans states call request m h.1))
+        (waiting-of (node + size state) plans states call request m h.1))
         (h.0, tries-step-of (node + size state) plans states call e m request h.1)
 
   -- ---- a run

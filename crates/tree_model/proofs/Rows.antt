@@ -2,10 +2,10 @@
 use Rattle.std.proofs.Common.{◌≡◌, ℕ, List, [], ◌∷◌, Option, Some, None, refl, codes}
 use Rattle.std.specs.Fmt.{digits}
 use Rattle.rpc_model.specs.declared.script.Act.{Act}
-use Rattle.rpc_model.specs.declared.script.Act.TheVariants.{Call, Cancel, Reply, Lose, Tick, Join}
+use Rattle.rpc_model.specs.declared.script.Act.TheVariants.{Call, Cancel, Reply, Lose, Join}
 use Rattle.rpc_model.specs.declared.event.End.TheVariants.{Good, Bad}
 use Rattle.rpc_model.specs.declared.told.Told.{Told}
-use Rattle.rpc_model.specs.declared.told.Told.TheVariants.{Ended, Unended, Full, Gone}
+use Rattle.rpc_model.specs.declared.told.Told.TheVariants.{Ended}
 use Rattle.rpc_model.specs.Codes.{retriable}
 use Rattle.tree_model.specs.declared.chan.Chan.{Chan}
 use Rattle.tree_model.specs.declared.chan.Chan.TheVariants as chan

@@ -1,18 +1,14 @@
 -- The laws of every run, from the lemmas on each.
-use Rattle.std.proofs.Common.{◌≡◌, ℕ, zero, suc, ◌+◌, ◌<◌, ◌≤◌, ◌⊎◌, inl, inr, Bool, true, false, cond, ◌==◌, ◌&&◌, nat_lt, List, [], ◌∷◌, ◌++◌, length, count_by, Option, Some, None, arith, refl, ap, sym, ◌∙◌, subst}
+use Rattle.std.proofs.Common.{◌≡◌, ℕ, zero, suc, ◌+◌, ◌<◌, ◌≤◌, ◌⊎◌, inl, inr, Bool, true, false, cond, ◌==◌, ◌&&◌, nat_lt, List, [], ◌∷◌, ◌++◌, length, count_by, Option, Some, None, arith, refl, ap, sym, ◌∙◌}
 use Rattle.std.proofs.lemmas.Bool.Decides.{nat_tests}
 use Rattle.std.proofs.lemmas.List.Recursion.{is_count_by}
 use Rattle.rpc_model.specs.declared.chan.LeafChan.{LeafChan}
-use Rattle.rpc_model.specs.declared.event.End.{End}
-use Rattle.rpc_model.specs.declared.event.Event.{Event}
 use Rattle.rpc_model.specs.Leaf.{Leaf, leaf_step}
 use Rattle.rpc_model.specs.Machine.{Send, server_of}
 use Rattle.rpc_model.proofs.Runs.{IssuesFew, leaf_step-issues}
-use Rattle.tree_model.specs.declared.chan.Chan.TheVariants as chan
-use Rattle.tree_model.specs.declared.chan.SelChan.{SelChan}
 use Rattle.tree_model.specs.Kinds.{Kinds}
-use Rattle.tree_model.specs.Plan.{Plan, sel_plan, Plans, last_plan, plan_then, and_plan, plans_of, sel_over, chan_plan, tries, tries_from}
-use Rattle.tree_model.specs.State.{State, waits, leaf_state, par_state, sel_state, States, last_state, state_then, end_of, attempts, attempts_of, size, size_of}
+use Rattle.tree_model.specs.Plan.{Plan, sel_plan, Plans, last_plan, plan_then, and_plan, plans_of, sel_over, tries, tries_from}
+use Rattle.tree_model.specs.State.{State, waits, leaf_state, par_state, sel_state, States, last_state, state_then, attempts, attempts_of, size, size_of}
 use Rattle.tree_model.specs.Machine.{machine}
 use Rattle.tree_model.specs.Completions.{count_of}
 use Rattle.tree_model.specs.Sends.{leaf_sends, sends_of, all_sends, is_of}

@@ -1,5 +1,5 @@
 -- A call sends what its state shows: of each leaf the attempts that it issued, once each.
-use Rattle.std.proofs.Common.{◌≡◌, ℕ, zero, suc, ◌+◌, inl, inr, Bool, true, false, cond, ◌==◌, nat_lt, fold, List, [], ◌∷◌, ◌++◌, length, Option, Some, None, arith, refl, ap, sym, subst, ◌∙◌}
+use Rattle.std.proofs.Common.{◌≡◌, ℕ, suc, ◌+◌, inl, inr, Bool, true, false, cond, ◌==◌, nat_lt, fold, List, [], ◌∷◌, ◌++◌, Option, Some, None, arith, refl, ap, sym, ◌∙◌}
 use Rattle.std.proofs.lemmas.Bool.Decides.{nat_tests}
 use Rattle.rpc_model.specs.declared.chan.LeafChan.{LeafChan}
 use Rattle.rpc_model.specs.declared.event.End.{End}
@@ -15,7 +15,7 @@ use Rattle.tree_model.specs.Plan.{Plan, leaf_plan, par_plan, sel_plan, Plans, la
 use Rattle.tree_model.specs.Versions.{nodes}
 use Rattle.tree_model.specs.Parallel.{mapped, refused, Limits, limits, judged}
 use Rattle.tree_model.specs.Selective.{next_try}
-use Rattle.tree_model.specs.State.{State, waits, leaf_state, par_state, sel_state, States, last_state, state_then, Run, Below, end_of, attempts, attempts_of, size, waiting_states, run_then, run_beside, quiet, and_then}
+use Rattle.tree_model.specs.State.{State, waits, leaf_state, par_state, sel_state, States, last_state, state_then, Run, Below, end_of, size, waiting_states, run_then, run_beside, quiet, and_then}
 use Rattle.tree_model.specs.Machine.{par_started, sub_started, where_ended, start_at, start_subs, start_tries, node_of, new_end, leaf_run, par_at, par_stepped, sel_at, sel_stepped, while_open, try_ended, try_run, is_left, start_waiting, step_at, step_subs, step_tries, step, start, machine, cancelled}
 use Rattle.tree_model.specs.Sends.{leaf_sends, sends_of, all_sends}
 use Rattle.tree_model.proofs.Sizes.{size-start, size-step}
@@ -113,7 +113,7 @@ module _ {M G : Type 0} (kinds : Kinds M G) (t : Send → Bool) (call : ℕ) whe
   waiting-sends node (state_then (waits plan) states) request m =
       let run = start_at kinds node plan call request m in
       let h = sent-try node (nodes plan) 0 run states (start_waiting kinds (node + nodes plan) states call request m) (end_of run.state) (size-start kinds node plan call request m) (start-sends node plan request m)
-        (waiting-sends (node + nodes plan) states request m) in
+      (waiting-sends (node + nodes plan) states request m) in
       omega (arith, h)
   waiting-sends node (state_then (leaf_state chan q leaf) states) request m = omega arith
   waiting-sends node (state_then (par_state par below) states) request m = omega arith
@@ -178,7 +178,7 @@ module _ {M G : Type 0} (kinds : Kinds M G) (t : Send → Bool) (call : ℕ) whe
         let run = step_at kinds node state call e m in
         let before = split node (size state) state states refl in
         let one = sent-try node (size state) (counted t (sends_of call node state)) run states (start_waiting kinds (node + size state) states call request m) (new_end (end_of state) (end_of run.state)) (size-step kinds node state call e m) (step-sends node state e m)
-          (waiting-sends (node + size state) states request m) in
+        (waiting-sends (node + size state) states request m) in
         let more = tries-step-sends (node + size state) states e m request in
         let next = step_tries kinds (node + size state) states call e m request in
         let after = split node (size state) state next.states refl in

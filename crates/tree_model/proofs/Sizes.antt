@@ -1,15 +1,15 @@
 -- A step keeps the number of nodes.
-use Rattle.std.proofs.Common.{◌≡◌, ℕ, ◌+◌, Bool, true, false, cond, ◌==◌, nat_lt, List, [], ◌∷◌, ◌++◌, Option, Some, None, is_none, arith, refl, ap, sym, ◌∙◌}
+use Rattle.std.proofs.Common.{◌≡◌, ℕ, ◌+◌, Bool, true, false, cond, ◌==◌, nat_lt, List, [], ◌∷◌, ◌++◌, Option, Some, None, arith, refl, ap}
 use Rattle.rpc_model.specs.declared.event.End.{End}
 use Rattle.rpc_model.specs.declared.event.Event.{Event}
 use Rattle.tree_model.specs.declared.mapper.Mapped.{Mapped}
 use Rattle.tree_model.specs.declared.mapper.Mapped.TheVariants as answer
 use Rattle.tree_model.specs.Kinds.{Kinds}
-use Rattle.tree_model.specs.Plan.{Rule, Plan, leaf_plan, par_plan, sel_plan, Plans, last_plan, plan_then}
+use Rattle.tree_model.specs.Plan.{Plan, leaf_plan, par_plan, sel_plan, Plans, last_plan, plan_then}
 use Rattle.tree_model.specs.Versions.{nodes, nodes_of}
 use Rattle.tree_model.specs.Parallel.{mapped, refused, Limits, limits, judged}
 use Rattle.tree_model.specs.Selective.{next_try}
-use Rattle.tree_model.specs.State.{State, waits, leaf_state, par_state, sel_state, States, last_state, state_then, Run, Below, end_of, size, size_of, waiting_states, beside, run_then, run_beside, still, quiet}
+use Rattle.tree_model.specs.State.{State, waits, leaf_state, par_state, sel_state, States, last_state, state_then, Run, Below, end_of, size, size_of, waiting_states}
 use Rattle.tree_model.specs.Machine.{par_started, sub_started, where_ended, try_ended, try_run, is_left, start_at, start_subs, start_tries, start_waiting, while_open, node_of, new_end, par_at, par_stepped, sel_at, sel_stepped, step_at, step_subs, step_tries}
 
 module _ {M G : Type 0} (kinds : Kinds M G) where

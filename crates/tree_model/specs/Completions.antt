@@ -6,7 +6,7 @@ use Rattle.rpc_model.specs.declared.event.End.TheVariants.{Bad}
 use Rattle.rpc_model.specs.declared.event.Event.{Event}
 use Rattle.tree_model.specs.Kinds.{Kinds}
 use Rattle.tree_model.specs.Plan.{Rule, Plan, par_plan, Plans, last_plan, plan_then}
-use Rattle.tree_model.specs.Parallel.{Limits, limits, mapped, refused, par_end, par_deadline, ends_from}
+use Rattle.tree_model.specs.Parallel.{limits, mapped, refused, par_end, par_deadline, ends_from}
 use Rattle.tree_model.specs.State.{Par, State, waits, leaf_state, par_state, sel_state, States, last_state, state_then, end_of, ends_of}
 use Rattle.tree_model.specs.Machine.{new_end, start, step, machine}
 use Rattle.tree_model.specs.Paths.{children, node_at}

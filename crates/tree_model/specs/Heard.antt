@@ -1,11 +1,12 @@
 -- What the told ends of a script rest on: lines that name the call. This project's own choice.
-use Rattle.std.specs.Prelude.{◌≡◌, ℕ, ◌+◌, ◌≤◌, ◌⊎◌, List, [], ◌∷◌, Some, Contains, slice_get}
+use Rattle.std.specs.Prelude.{◌≡◌, ℕ, ◌+◌, ◌≤◌, ◌⊎◌, List, [], ◌∷◌, Some, Contains, count_by, slice_get}
 use Rattle.rpc_model.specs.declared.chan.LeafChan.{LeafChan}
 use Rattle.rpc_model.specs.declared.event.End.{End}
 use Rattle.rpc_model.specs.declared.event.End.TheVariants.{Good}
 use Rattle.rpc_model.specs.declared.script.Act.{Act}
 use Rattle.rpc_model.specs.declared.script.Act.TheVariants.{Call, Cancel, Reply, Lose, Tick, Join}
 use Rattle.rpc_model.specs.declared.told.Told.TheVariants.{Ended}
+use Rattle.rpc_model.specs.Laws.{is_end_of}
 use Rattle.tree_model.specs.declared.chan.Chan.TheVariants as chan
 use Rattle.tree_model.specs.Kinds.{script_kinds}
 use Rattle.tree_model.specs.Versions.{possible_attempts}
@@ -37,4 +38,8 @@ TextsNeedAReply = (script : Script) (c count : ℕ) (text : List ℕ) → Contai
 abbrev pub ToldAttemptsAreFew : Type 0
 ToldAttemptsAreFew = (script : Script) (c count : ℕ) (end : End) → Contains (told script) (Ended c end count)
     → (e : EndsBy script unbegun script.acts c end count) × (count ≤ possible_attempts e.tree)
-        × ((leaf : LeafChan) → slice_get script.chans e.chan ≡ Some (chan.Leaf leaf) → count ≤ 1 + leaf.retry)
+    × ((leaf : LeafChan) → slice_get script.chans e.chan ≡ Some (chan.Leaf leaf) → count ≤ 1 + leaf.retry)
+
+-- The end of a call is told once at the most.
+abbrev pub ToldOnce : Type 0
+ToldOnce = (script : Script) (call : ℕ) → count_by (is_end_of call) (told script) ≤ 1

@@ -1,5 +1,5 @@
 -- How mappers and mergers answer, as functions, and the tables of the kinds that a script has. brpc's documents on combination channels have mappers and mergers; the kinds are this project's own.
-use Rattle.std.specs.Prelude.{ℕ, ◌+◌, ◌-◌, ◌^◌, Bool, ◌==◌, ◌&&◌, nat_le, List, [], ◌∷◌, ◌++◌, bytes_eq, slice_get, unwrap_or, Option, None, Some, if◌then◌else◌}
+use Rattle.std.specs.Prelude.{ℕ, ◌+◌, ◌-◌, ◌^◌, Bool, ◌==◌, ◌&&◌, nat_le, List, [], ◌++◌, bytes_eq, slice_get, unwrap_or, Option, None, Some, if◌then◌else◌}
 use Rattle.std.specs.List.{slice_split}
 use Rattle.std.specs.Fmt.{decimal}
 use Rattle.rpc_model.specs.Words.{is_numeral, digits_after}

@@ -1,5 +1,4 @@
 -- What holds of each leaf of a call that was started. This project's own choice.
-use Rattle.std.specs.Prelude.{ℕ}
 use Rattle.rpc_model.specs.declared.chan.LeafChan.{LeafChan}
 use Rattle.rpc_model.specs.Leaf.{Leaf}
 use Rattle.tree_model.specs.State.{State, waits, leaf_state, par_state, sel_state, States, last_state, state_then}

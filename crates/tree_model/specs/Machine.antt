@@ -1,9 +1,9 @@
 -- The plain machine of a call: how its tree of nodes starts, and what an event does to it. brpc's documents on the client and on combination channels, with this project's own choices where they leave one.
-use Rattle.std.specs.Prelude.{ℕ, zero, suc, ◌+◌, Bool, true, false, ◌==◌, nat_lt, List, [], ◌∷◌, ◌++◌, fold, Option, None, Some, is_none, if◌then◌else◌}
+use Rattle.std.specs.Prelude.{ℕ, ◌+◌, Bool, true, false, ◌==◌, nat_lt, List, [], ◌∷◌, ◌++◌, fold, Option, None, Some, is_none, if◌then◌else◌}
 use Rattle.rpc_model.specs.declared.codes.TheConstants.{ECANCELED, ERPCTIMEDOUT}
 use Rattle.rpc_model.specs.declared.chan.LeafChan.{LeafChan}
 use Rattle.rpc_model.specs.declared.event.End.{End}
-use Rattle.rpc_model.specs.declared.event.End.TheVariants.{Good, Bad}
+use Rattle.rpc_model.specs.declared.event.End.TheVariants.{Bad}
 use Rattle.rpc_model.specs.declared.event.Event.{Event}
 use Rattle.rpc_model.specs.declared.event.Event.TheVariants.{Reply, Lost, Backup, Deadline, Cancel}
 use Rattle.rpc_model.specs.Leaf.{Leaf, started, ended, leaf_step}

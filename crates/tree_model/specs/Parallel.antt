@@ -1,5 +1,5 @@
 -- A parallel node: what it asks of its subs, when it ends, and how the parts are merged. brpc's documents on combination channels; where it ends, and with which code, is this project's own choice.
-use Rattle.std.specs.Prelude.{ℕ, zero, suc, ◌+◌, ◌-◌, Bool, true, false, ◌==◌, ◌&&◌, ◌||◌, nat_le, min, List, [], ◌∷◌, length, count_by, unwrap_or, Option, None, Some, if◌then◌else◌}
+use Rattle.std.specs.Prelude.{ℕ, zero, suc, ◌+◌, ◌-◌, Bool, true, false, ◌==◌, ◌||◌, nat_le, min, List, [], ◌∷◌, length, count_by, unwrap_or, Option, None, Some, if◌then◌else◌}
 use Rattle.std.specs.List.{list_any}
 use Rattle.rpc_model.specs.declared.codes.TheConstants.{ECANCELED, EREQUEST, ETOOMANYFAILS, ERPCTIMEDOUT, ERESPONSE}
 use Rattle.rpc_model.specs.declared.event.End.{End}

@@ -65,7 +65,11 @@ module _ {M G : Type 0} where
 
   abbrev pub rule_of : ParChan M G → Rule M G
   rule_of par = record {
-    maps = map (λ (s : Sub M G). s.map) par.subs; merges = map (λ (s : Sub M G). s.merge) par.subs; fail = par.fail; ok = par.ok; timeout = par.timeout;
+    maps = map (λ (s : Sub M G). s.map) par.subs;
+    merges = map (λ (s : Sub M G). s.merge) par.subs;
+    fail = par.fail;
+    ok = par.ok;
+    timeout = par.timeout;
   }
 
   abbrev pub subs_of : ParChan M G → List ℕ
@@ -73,7 +77,11 @@ module _ {M G : Type 0} where
 
   abbrev pub part_rule : PartChan M G → Rule M G
   part_rule part = record {
-    maps = copies part.parts part.map; merges = copies part.parts part.merge; fail = part.fail; ok = part.ok; timeout = part.timeout;
+    maps = copies part.parts part.map;
+    merges = copies part.parts part.merge;
+    fail = part.fail;
+    ok = part.ok;
+    timeout = part.timeout;
   }
 
   abbrev pub part_leaf : PartChan M G → ℕ → LeafChan

@@ -1,5 +1,5 @@
 -- The state of a call: a tree with a node for each node of its plan. This project's own choice.
-use Rattle.std.specs.Prelude.{ℕ, ◌+◌, List, [], ◌∷◌, ◌++◌, Option, None, Some}
+use Rattle.std.specs.Prelude.{ℕ, ◌+◌, List, [], ◌∷◌, ◌++◌, Option, None}
 use Rattle.rpc_model.specs.declared.chan.LeafChan.{LeafChan}
 use Rattle.rpc_model.specs.declared.event.End.{End}
 use Rattle.rpc_model.specs.Leaf.{Leaf}

@@ -1,5 +1,5 @@
 -- The versions of a call's range of ids, after bthread_id: one for each node of its plan, and one for each attempt that its leaves may issue. This project's own choice.
-use Rattle.std.specs.Prelude.{ℕ, zero, suc, ◌+◌, Bool, true, false, ◌==◌, ◌&&◌, List, [], ◌∷◌, ◌++◌, length, position, slice_get, Option}
+use Rattle.std.specs.Prelude.{ℕ, zero, suc, ◌+◌, Bool, false, ◌==◌, ◌&&◌, List, [], ◌∷◌, ◌++◌, length, position, slice_get, Option}
 use Rattle.tree_model.specs.declared.meaning.Meaning.{Meaning}
 use Rattle.tree_model.specs.declared.meaning.Meaning.TheVariants.{Node, Attempt}
 use Rattle.tree_model.specs.Plan.{Plan, leaf_plan, par_plan, sel_plan, Plans, last_plan, plan_then}

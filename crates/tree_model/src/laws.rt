@@ -5,9 +5,10 @@ ghost use Rattle.tree_model.specs.Kinds.{Kinds};
 ghost use Rattle.tree_model.specs.Completions.{ParallelNodesStandByCompletions};
 ghost use Rattle.tree_model.specs.Early.{DueMarksMayBeTakenAtOnce};
 ghost use Rattle.tree_model.specs.Earned.{GoodEndsNeedALiveReply};
-ghost use Rattle.tree_model.specs.Heard.{TextsNeedAReply, ToldAttemptsAreFew};
+ghost use Rattle.tree_model.specs.Heard.{TextsNeedAReply, ToldAttemptsAreFew, ToldOnce};
 ghost use Rattle.tree_model.specs.Laws.{EndsStay, NodesStay, LeavesIssueFew, NodesAreOfThePlan, TriesAreFew, SendsAreOfTheState, SendsAreAttempts, NothingIsSentTwice, OffsetsAndMeaningsAreInverse, WeavesJoin};
 ghost use Rattle.tree_model.specs.Logs.{EndsAreTheMachines};
+ghost use Rattle.tree_model.specs.Moments.{MomentsAreEarly};
 
 /// Each end that is told is the one that the machine gives for that call's own events: those of the lines that name it, in
 /// their order, woven with its own marks.
@@ -24,6 +25,16 @@ pub fn told_texts_need_a_reply()
 /// limit.
 pub fn told_attempts_are_few()
     ensures { ToldAttemptsAreFew }
+{}
+
+/// The joins of a script tell the end of a call at most once.
+pub fn told_once()
+    ensures { ToldOnce }
+{}
+
+/// Every moment that an accepted script reaches stays below 2^60, and so does every mark that waits then.
+pub fn moments_are_early()
+    ensures { MomentsAreEarly }
 {}
 
 /// Calls may take their marks as soon as these are due, or only before their next event: the joins tell the same.
