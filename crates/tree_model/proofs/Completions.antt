@@ -222,7 +222,7 @@ module _ {M G : Type 0} (kinds : Kinds M G) where
   -- the judgement of so many failures and successes, and these parts
   judgement_of : Limits → ℕ → ℕ → List (Part G) → Option End
   judgement_of lim fails oks parts =
-      cond (nat_le lim.fail fails) (Some (Bad ETOOMANYFAILS)) (cond (nat_le lim.ok oks || nat_le lim.count (oks + fails)) (Some (fold_parts kinds parts fails lim.fail)) None)
+      cond (nat_le lim.fail fails) (Some (Bad ETOOMANYFAILS)) (cond (nat_le lim.ok oks || nat_le lim.count (oks + fails)) (Some (fold_parts kinds.merge parts fails lim.fail)) None)
 
   -- Subs that haven't started count for nothing.
   judged-waiting : (lim : Limits) (merges : List G) (xs : List (Option End)) (plans : Plans M G) → judged kinds lim merges (xs ++ ends_of (waiting_states plans)) ≡ judged kinds lim merges xs
@@ -308,11 +308,11 @@ module _ {M G : Type 0} (kinds : Kinds M G) where
   ends-waiting j (suc n) (plan_then plan plans) h = ap (λ os. None ∷ os) (ends-waiting (j + 1) n plans (omega (arith, h)))
 
   -- A parallel node that starts its subs has the end of their completions.
-  pub start-judged : (node : ℕ) (rule : Rule M G) (plans : Plans M G) (call : ℕ) (request : List ℕ) (m : ℕ) → count_of plans ≡ length rule.merges → refused (mapped kinds rule.maps request) ≡ None
+  pub start-judged : (node : ℕ) (rule : Rule M G) (plans : Plans M G) (call : ℕ) (request : List ℕ) (m : ℕ) → count_of plans ≡ length rule.merges → refused (mapped kinds.map rule.maps request) ≡ None
       → let now = (start_at kinds node (par_plan rule plans) call request m).state in
-      AreDone (limits rule (mapped kinds rule.maps request)) rule.merges (newly 0 (waiting_states plans) (children now) []) now
+      AreDone (limits rule (mapped kinds.map rule.maps request)) rule.merges (newly 0 (waiting_states plans) (children now) []) now
   start-judged node rule plans call request m counts none =
-      let asked = mapped kinds rule.maps request in
+      let asked = mapped kinds.map rule.maps request in
       let lim = limits rule asked in
       let below = start_subs kinds (node + 1) plans call asked lim rule.merges m [] in
       let h = start-subs lim rule.merges (node + 1) plans call asked m [] [] (ends-waiting 0 (length rule.merges) plans counts) refl in

@@ -78,7 +78,7 @@ module _ {M G : Type 0} (kinds : Kinds M G) where
   -- A good judgement has a good part.
   judged-good : (lim : Limits) (merges : List G) (ends : List (Option End)) → IsFit lim → IsGood (judged kinds lim merges ends) → 1 ≤ goods ends
   judged-good lim merges ends fit g =
-      judged-by lim (bads ends) (goods ends) (fold_parts kinds (parts_of merges ends) (bads ends) lim.fail) (nat_le lim.fail (bads ends)) (nat_le lim.ok (goods ends)) (nat_le lim.count (goods ends + bads ends)) fit refl refl refl g
+      judged-by lim (bads ends) (goods ends) (fold_parts kinds.merge (parts_of merges ends) (bads ends) lim.fail) (nat_le lim.fail (bads ends)) (nat_le lim.ok (goods ends)) (nat_le lim.count (goods ends + bads ends)) fit refl refl refl g
 
   deadline-by : (lim : Limits) (oks : ℕ) (end : End) (u : Bool) → IsFit lim → nat_le lim.fail (lim.count - oks) ≡ u → IsGood (Some (cond u (Bad ERPCTIMEDOUT) end)) → 1 ≤ oks
   deadline-by lim oks end true fit h g = absurd g
@@ -86,7 +86,7 @@ module _ {M G : Type 0} (kinds : Kinds M G) where
 
   deadline-good : (lim : Limits) (merges : List G) (ends : List (Option End)) → IsFit lim → IsGood (Some (par_deadline kinds lim merges ends)) → 1 ≤ goods ends
   deadline-good lim merges ends fit g =
-      deadline-by lim (goods ends) (fold_parts kinds (parts_of merges ends) (lim.count - goods ends) lim.fail) (nat_le lim.fail (lim.count - goods ends)) fit refl g
+      deadline-by lim (goods ends) (fold_parts kinds.merge (parts_of merges ends) (lim.count - goods ends) lim.fail) (nat_le lim.fail (lim.count - goods ends)) fit refl g
 
   -- ---- what holds of a tree
 
@@ -193,7 +193,7 @@ module _ {M G : Type 0} (kinds : Kinds M G) where
     start-earned : (node : ℕ) (plan : Plan M G) (call : ℕ) (request : List ℕ) (m : ℕ) → StartsEarned (start_at kinds node plan call request m)
     start-earned node (leaf_plan leaf) call request m = (tt, λ g. g)
     start-earned node (par_plan rule plans) call request m =
-        let asked = mapped kinds rule.maps request in
+        let asked = mapped kinds.map rule.maps request in
         let lim = limits rule asked in
         start-par node rule.timeout m lim rule.merges plans (start_subs kinds (node + 1) plans call asked lim rule.merges m []) (refused asked) (λ g. refused-bad asked (list_any is_bad asked) (list_any is_asked asked) g)
         (λ e. limits-fit rule asked e) (λ fit. start-subs-earned (node + 1) plans call asked lim rule.merges m [] fit refl)

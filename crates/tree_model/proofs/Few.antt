@@ -64,7 +64,7 @@ module _ {M G : Type 0} (kinds : Kinds M G) where
         let both = length-append (mark_after leaf.timeout node moment deadline) (mark_after leaf.backup node moment backup) in
         omega (arith, d, b, both)
     start-few node (par_plan rule plans) call request moment =
-        let asked = mapped kinds rule.maps request in
+        let asked = mapped kinds.map rule.maps request in
         let lim = limits rule asked in
         let below = start_subs kinds (node + 1) plans call asked lim rule.merges moment [] in
         few-node rule.timeout node moment (nodes_of plans) (par_started plans below (refused asked)) (few-par plans below (refused asked) (subs-few (node + 1) plans call asked lim rule.merges moment []))

@@ -156,7 +156,7 @@ module _ {M G : Type 0} (kinds : Kinds M G) where
     few-of request (par_plan rule plans) (leaf_state c q leaf) h few = absurd h
     few-of request (sel_plan timeout plans) (leaf_state c q leaf) h few = absurd h
     few-of request (leaf_plan chan) (par_state par states) h few = absurd h
-    few-of request (par_plan rule plans) (par_state par states) h few = subs-few-of (mapped kinds rule.maps request) plans states h.2 few
+    few-of request (par_plan rule plans) (par_state par states) h few = subs-few-of (mapped kinds.map rule.maps request) plans states h.2 few
     few-of request (sel_plan timeout plans) (par_state par states) h few = absurd h
     few-of request (leaf_plan chan) (sel_state sel states) h few = absurd h
     few-of request (par_plan rule plans) (sel_state sel states) h few = absurd h

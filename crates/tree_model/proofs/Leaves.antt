@@ -53,8 +53,8 @@ module _ {M G : Type 0} (kinds : Kinds M G) where
     pub start-each : (P : LeafChan → Leaf → Type 0) → IsKept P → (node : ℕ) (plan : Plan M G) (call : ℕ) (request : List ℕ) (m : ℕ) → EachLeaf P (start_at kinds node plan call request m).state
     start-each P k node (leaf_plan leaf) call request m = k.at_start leaf
     start-each P k node (par_plan rule plans) call request m =
-        each-par P plans (start_subs kinds (node + 1) plans call (mapped kinds rule.maps request) (limits rule (mapped kinds rule.maps request)) rule.merges m []) (refused (mapped kinds rule.maps request))
-        (subs-each P k (node + 1) plans call (mapped kinds rule.maps request) (limits rule (mapped kinds rule.maps request)) rule.merges m [])
+        each-par P plans (start_subs kinds (node + 1) plans call (mapped kinds.map rule.maps request) (limits rule (mapped kinds.map rule.maps request)) rule.merges m []) (refused (mapped kinds.map rule.maps request))
+        (subs-each P k (node + 1) plans call (mapped kinds.map rule.maps request) (limits rule (mapped kinds.map rule.maps request)) rule.merges m [])
     start-each P k node (sel_plan timeout plans) call request m = tries-each P k (node + 1) plans call request m
 
     subs-each : (P : LeafChan → Leaf → Type 0) → IsKept P → (node : ℕ) (plans : Plans M G) (call : ℕ) (asked : List Mapped) (lim : Limits) (merges : List G) (m : ℕ) (ends : List (Option End)) → EachLeafOf P (start_subs kinds node plans call asked lim merges m ends).states

@@ -1,4 +1,5 @@
 mod Rows
+mod Digits
 mod Few
 mod Leaves
 mod Soon

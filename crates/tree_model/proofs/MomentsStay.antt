@@ -68,7 +68,7 @@ module _ {M G : Type 0} (kinds : Kinds M G) where
   root-started : (node : ℕ) (plan : Plan M G) (call : ℕ) (request : List ℕ) (m : ℕ) → unstarted (start_at kinds node plan call request m).state + 1 ≤ nodes plan
   root-started node (leaf_plan leaf) call request m = omega arith
   root-started node (par_plan rule plans) call request m =
-      let asked = mapped kinds rule.maps request in
+      let asked = mapped kinds.map rule.maps request in
       let few = few-par kinds plans (start_subs kinds (node + 1) plans call asked (limits rule asked) rule.merges m []) (refused asked) (subs-few kinds (node + 1) plans call asked (limits rule asked) rule.merges m []) in
       omega (arith, few)
   root-started node (sel_plan timeout plans) call request m = let few = tries-few kinds (node + 1) plans call request m in omega (arith, few)

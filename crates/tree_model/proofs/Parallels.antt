@@ -27,7 +27,7 @@ module _ {M G : Type 0} (kinds : Kinds M G) (path : List ℕ) (rule : Rule M G) 
 
   -- ---- an open node
 
-  by-judged : (done : List (ℕ × End)) (request : List ℕ) (now : State M G) → AreDone kinds (limits rule (mapped kinds rule.maps request)) rule.merges done now → NodeStandsBy kinds path rule plans done (Some now)
+  by-judged : (done : List (ℕ × End)) (request : List ℕ) (now : State M G) → AreDone kinds (limits rule (mapped kinds.map rule.maps request)) rule.merges done now → NodeStandsBy kinds path rule plans done (Some now)
   by-judged done request (waits plan) h = absurd h
   by-judged done request (leaf_state chan q leaf) h = absurd h
   by-judged done request (par_state par states) h = record { request = request; same_limits = h.same_limits; same_merges = h.same_merges; by_index = h.by_index; ends = inl h.judgement }
@@ -35,16 +35,16 @@ module _ {M G : Type 0} (kinds : Kinds M G) (path : List ℕ) (rule : Rule M G) 
 
   -- an open node is one that its completions brought no end
   open-judged : (done : List (ℕ × End)) (par : Par G) (states : States M G) (h : StandsBy kinds path rule done par states) → par.end ≡ None → EndsBy kinds path rule h.request done par.end
-      → IsJudged kinds (limits rule (mapped kinds rule.maps h.request)) rule.merges done par states
+      → IsJudged kinds (limits rule (mapped kinds.map rule.maps h.request)) rule.merges done par states
   open-judged done par states h none (inl e) = record { same_limits = h.same_limits; same_merges = h.same_merges; by_index = h.by_index; judgement = e }
   open-judged done par states h none (inr (inl (before, e))) = absurd (cc)
   open-judged done par states h none (inr (inr (inl (empty, e)))) =
-      record { same_limits = h.same_limits; same_merges = h.same_merges; by_index = h.by_index; judgement = none ∙ sym (ap (par_end kinds (limits rule (mapped kinds rule.maps h.request)) rule.merges) empty) }
+      record { same_limits = h.same_limits; same_merges = h.same_merges; by_index = h.by_index; judgement = none ∙ sym (ap (par_end kinds (limits rule (mapped kinds.map rule.maps h.request)) rule.merges) empty) }
   open-judged done par states h none (inr (inr (inr (root, before, e)))) = absurd (cc)
 
   goes-deadline : (done : List (ℕ × End)) (par : Par G) (states : States M G) (h : StandsBy kinds path rule done par states) (end : Option End) → par.end ≡ None
-      → IsJudged kinds (limits rule (mapped kinds rule.maps h.request)) rule.merges done par states
-      → end ≡ Some (par_deadline kinds (limits rule (mapped kinds rule.maps h.request)) rule.merges (ends_from 0 (length rule.merges) done)) → Goes done (par_state par states) (par_state (record par { end = end }) states)
+      → IsJudged kinds (limits rule (mapped kinds.map rule.maps h.request)) rule.merges done par states
+      → end ≡ Some (par_deadline kinds (limits rule (mapped kinds.map rule.maps h.request)) rule.merges (ends_from 0 (length rule.merges) done)) → Goes done (par_state par states) (par_state (record par { end = end }) states)
   goes-deadline done par states h end none j e =
       subst (λ ds. StandsBy kinds path rule ds (record par { end = end }) states) (sym (newly-same kinds 0 states done))
       (record { request = h.request; same_limits = h.same_limits; same_merges = h.same_merges; by_index = h.by_index; ends = inr (inl (sym j.judgement ∙ none, e)) })
@@ -53,7 +53,7 @@ module _ {M G : Type 0} (kinds : Kinds M G) (path : List ℕ) (rule : Rule M G) 
       → Goes done (par_state par states) (step_at kinds number (par_state par states) call e m).state
   goes-open done number par states call e m h none = by (node_of e == number) (is_deadline e) refl refl
     where
-      j : IsJudged kinds (limits rule (mapped kinds rule.maps h.request)) rule.merges done par states
+      j : IsJudged kinds (limits rule (mapped kinds.map rule.maps h.request)) rule.merges done par states
       j = open-judged done par states h none h.ends
 
       now : State M G
@@ -65,13 +65,13 @@ module _ {M G : Type 0} (kinds : Kinds M G) (path : List ℕ) (rule : Rule M G) 
           (while_open o (par_state par states) (cond v (quiet (par_state (cond w (record par { end = Some (par_deadline kinds par.limits par.merges (ends_of states)) }) par) states)) (par_stepped kinds par (step_subs kinds (number + 1) states call e m)))).state
 
       others : ((node_of e == number) ≡ true → is_deadline e ≡ false) → Goes done (par_state par states) now
-      others h' = by-judged (newly 0 states (children now) done) h.request now (step-judged kinds (limits rule (mapped kinds rule.maps h.request)) rule.merges done number par states call e m j h')
+      others h' = by-judged (newly 0 states (children now) done) h.request now (step-judged kinds (limits rule (mapped kinds.map rule.maps h.request)) rule.merges done number par states call e m j h')
 
       by : (v w : Bool) → (node_of e == number) ≡ v → is_deadline e ≡ w → Goes done (par_state par states) now
       by false w here due = others (λ yes. absurd (let both = sym here ∙ yes in cc))
       by true false here due = others (λ yes. due)
       by true true here due =
-          let lim = limits rule (mapped kinds rule.maps h.request) in
+          let lim = limits rule (mapped kinds.map rule.maps h.request) in
           let late : Option End = Some (par_deadline kinds par.limits par.merges (ends_of states)) in
           let same : late ≡ Some (par_deadline kinds lim rule.merges (ends_from 0 (length rule.merges) done)) =
           ap (λ l. Some (par_deadline kinds l par.merges (ends_of states))) j.same_limits
@@ -93,10 +93,10 @@ module _ {M G : Type 0} (kinds : Kinds M G) (path : List ℕ) (rule : Rule M G) 
       by (Some end) is = goes-same done (par_state par states) _ h (node-ended kinds number (par_state par states) call e m end is)
   goes-stepped done number (sel_state sel states) call e m h = absurd h
 
-  goes-refused : (request : List ℕ) (number call m : ℕ) (end : End) → count_of plans ≡ length rule.merges → refused (mapped kinds rule.maps request) ≡ Some end
+  goes-refused : (request : List ℕ) (number call m : ℕ) (end : End) → count_of plans ≡ length rule.merges → refused (mapped kinds.map rule.maps request) ≡ Some end
       → NodeStandsBy kinds path rule plans (newly 0 (waiting_states plans) (children (start_at kinds number (par_plan rule plans) call request m).state) []) (Some (start_at kinds number (par_plan rule plans) call request m).state)
   goes-refused request number call m end counts is =
-      let asked = mapped kinds rule.maps request in
+      let asked = mapped kinds.map rule.maps request in
       let lim = limits rule asked in
       let below = start_subs kinds (number + 1) plans call asked lim rule.merges m [] in
       subst (λ o. let now = (par_run number rule.timeout m lim rule.merges (par_started plans below o)).state in NodeStandsBy kinds path rule plans (newly 0 (waiting_states plans) (children now) []) (Some now)) (sym is)
@@ -105,12 +105,12 @@ module _ {M G : Type 0} (kinds : Kinds M G) (path : List ℕ) (rule : Rule M G) 
 
   goes-begun : (request : List ℕ) (number call m : ℕ) → count_of plans ≡ length rule.merges
       → NodeStandsBy kinds path rule plans (newly 0 (waiting_states plans) (children (start_at kinds number (par_plan rule plans) call request m).state) []) (Some (start_at kinds number (par_plan rule plans) call request m).state)
-  goes-begun request number call m counts = by (refused (mapped kinds rule.maps request)) refl
+  goes-begun request number call m counts = by (refused (mapped kinds.map rule.maps request)) refl
     where
       now : State M G
       now = (start_at kinds number (par_plan rule plans) call request m).state
 
-      by : (o : Option End) → refused (mapped kinds rule.maps request) ≡ o → NodeStandsBy kinds path rule plans (newly 0 (waiting_states plans) (children now) []) (Some now)
+      by : (o : Option End) → refused (mapped kinds.map rule.maps request) ≡ o → NodeStandsBy kinds path rule plans (newly 0 (waiting_states plans) (children now) []) (Some now)
       by None none = by-judged (newly 0 (waiting_states plans) (children now) []) request now (start-judged kinds number rule plans call request m counts none)
       by (Some end) is = goes-refused request number call m end counts is
 

@@ -140,7 +140,7 @@ module _ {M G : Type 0} (kinds : Kinds M G) (call : ℕ) (e : Event) (m : ℕ) w
   children-start : (number : ℕ) (plan : Plan M G) (request : List ℕ) → ChildrenMoved (waiting_states (plans_below plan)) (children (start_at kinds number plan call request m).state)
   children-start number (leaf_plan leaf) request = all-stay last_state
   children-start number (par_plan rule plans) request =
-      let asked = mapped kinds rule.maps request in
+      let asked = mapped kinds.map rule.maps request in
       par-begun plans (start_subs kinds (number + 1) plans call asked (limits rule asked) rule.merges m []) (refused asked) (subs-start (number + 1) plans asked (limits rule asked) rule.merges [])
   children-start number (sel_plan timeout plans) request = tries-start (number + 1) plans request
 

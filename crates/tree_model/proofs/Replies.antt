@@ -68,7 +68,7 @@ module _ {M G : Type 0} (kinds : Kinds M G) where
     pub start-from : (node : ℕ) (plan : Plan M G) (call : ℕ) (request : List ℕ) (m : ℕ) → From ⊥ (start_at kinds node plan call request m)
     start-from node (leaf_plan leaf) call request m g = g
     start-from node (par_plan rule plans) call request m g =
-        from-par plans _ (refused (mapped kinds rule.maps request)) (subs-from (node + 1) plans call (mapped kinds rule.maps request) (limits rule (mapped kinds rule.maps request)) rule.merges m []) g
+        from-par plans _ (refused (mapped kinds.map rule.maps request)) (subs-from (node + 1) plans call (mapped kinds.map rule.maps request) (limits rule (mapped kinds.map rule.maps request)) rule.merges m []) g
     start-from node (sel_plan timeout plans) call request m g = tries-from (node + 1) plans call request m g
 
     subs-from : (node : ℕ) (plans : Plans M G) (call : ℕ) (asked : List Mapped) (lim : Limits) (merges : List G) (m : ℕ) (ends : List (Option End)) → AreFrom ⊥ (start_subs kinds node plans call asked lim merges m ends)

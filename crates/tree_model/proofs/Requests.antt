@@ -54,7 +54,7 @@ module _ {M G : Type 0} (kinds : Kinds M G) where
     pub start-of : (node : ℕ) (plan : Plan M G) (call : ℕ) (request : List ℕ) (m : ℕ) → IsOf kinds request plan (start_at kinds node plan call request m).state
     start-of node (leaf_plan leaf) call request m = (refl, refl)
     start-of node (par_plan rule plans) call request m =
-        let asked = mapped kinds rule.maps request in
+        let asked = mapped kinds.map rule.maps request in
         (refl, refl, of-par asked plans (start_subs kinds (node + 1) plans call asked (limits rule asked) rule.merges m []) (refused asked) (subs-of (node + 1) plans call asked (limits rule asked) rule.merges m []))
     start-of node (sel_plan timeout plans) call request m = (refl, tries-of (node + 1) plans call request m)
 
@@ -128,7 +128,7 @@ module _ {M G : Type 0} (kinds : Kinds M G) where
         of-open request (par_plan rule plans) par.end (par_state par states) _ h
         (of-either request (par_plan rule plans) (node_of e == node) (par_at kinds par states e) (par_stepped kinds par (step_subs kinds (node + 1) states call e m))
         (par-of request rule plans (is_deadline e) par (Some (par_deadline kinds par.limits par.merges (ends_of states))) states h)
-        (h.0, h.1, subs-step-of (node + 1) plans states call e m (mapped kinds rule.maps request) h.2))
+        (h.0, h.1, subs-step-of (node + 1) plans states call e m (mapped kinds.map rule.maps request) h.2))
     step-of node (sel_plan timeout plans) (par_state par states) call e m request h = absurd h
     step-of node (leaf_plan chan) (sel_state sel states) call e m request h = absurd h
     step-of node (par_plan rule plans) (sel_state sel states) call e m request h = absurd h

@@ -85,7 +85,7 @@ module _ {M G : Type 0} (kinds : Kinds M G) (t : Send → Bool) (call : ℕ) whe
     pub start-sends : (node : ℕ) (plan : Plan M G) (request : List ℕ) (m : ℕ) → IsSent node 0 (start_at kinds node plan call request m)
     start-sends node (leaf_plan leaf) request m = omega arith
     start-sends node (par_plan rule plans) request m =
-        sent-par (node + 1) plans _ (refused (mapped kinds rule.maps request)) (subs-sends (node + 1) plans (mapped kinds rule.maps request) (limits rule (mapped kinds rule.maps request)) rule.merges m [])
+        sent-par (node + 1) plans _ (refused (mapped kinds.map rule.maps request)) (subs-sends (node + 1) plans (mapped kinds.map rule.maps request) (limits rule (mapped kinds.map rule.maps request)) rule.merges m [])
     start-sends node (sel_plan timeout plans) request m = tries-sends (node + 1) plans request m
 
     subs-sends : (node : ℕ) (plans : Plans M G) (asked : List Mapped) (lim : Limits) (merges : List G) (m : ℕ) (ends : List (Option End)) → AreSent node 0 (start_subs kinds node plans call asked lim merges m ends)

@@ -40,7 +40,7 @@ module _ {M G : Type 0} (kinds : Kinds M G) where
     pub size-start : (node : ℕ) (plan : Plan M G) (call : ℕ) (request : List ℕ) (moment : ℕ) → size (start_at kinds node plan call request moment).state ≡ nodes plan
     size-start node (leaf_plan leaf) call request moment = refl
     size-start node (par_plan rule plans) call request moment =
-        ap (λ n. 1 + n) (size-started plans _ (refused (mapped kinds rule.maps request)) (size-subs (node + 1) plans call (mapped kinds rule.maps request) (limits rule (mapped kinds rule.maps request)) rule.merges moment []))
+        ap (λ n. 1 + n) (size-started plans _ (refused (mapped kinds.map rule.maps request)) (size-subs (node + 1) plans call (mapped kinds.map rule.maps request) (limits rule (mapped kinds.map rule.maps request)) rule.merges moment []))
     size-start node (sel_plan timeout plans) call request moment = ap (λ n. 1 + n) (size-tries (node + 1) plans call request moment)
 
     size-subs : (node : ℕ) (plans : Plans M G) (call : ℕ) (asked : List Mapped) (lim : Limits) (merges : List G) (moment : ℕ) (ends : List (Option End)) → size_of (start_subs kinds node plans call asked lim merges moment ends).states ≡ nodes_of plans

@@ -52,7 +52,7 @@ module _ {M G : Type 0} (kinds : Kinds M G) where
     pub start-soon : (node : ℕ) (plan : Plan M G) (call : ℕ) (request : List ℕ) (m : ℕ) → IsShort plan → RunIsSoon m (start_at kinds node plan call request m)
     start-soon node (leaf_plan leaf) call request m h = (append-soon m (mark_after leaf.timeout node m deadline) (mark_after leaf.backup node m backup) (mark-soon leaf.timeout node m deadline h.0) (mark-soon leaf.backup node m backup h.1), tt)
     start-soon node (par_plan rule plans) call request m h =
-        let asked = mapped kinds rule.maps request in
+        let asked = mapped kinds.map rule.maps request in
         let b = par-soon m plans (start_subs kinds (node + 1) plans call asked (limits rule asked) rule.merges m []) (refused asked) h.1 (subs-soon (node + 1) plans call asked (limits rule asked) rule.merges m [] h.1) in
         (append-soon m (mark_after rule.timeout node m deadline) _ (mark-soon rule.timeout node m deadline h.0) b.0, b.1)
     start-soon node (sel_plan timeout plans) call request m h =

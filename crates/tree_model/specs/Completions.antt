@@ -52,7 +52,7 @@ module _ {M G : Type 0} (kinds : Kinds M G) where
   -- Why a parallel node at the end of a path has its end, or none: by its completions, by its deadline after completions that brought none, because no sub was started, or, at the root, by a cancel after completions that brought none.
   abbrev pub EndsBy : List ℕ → Rule M G → List ℕ → List (ℕ × End) → Option End → Type 0
   EndsBy path rule request done end =
-      let asked = mapped kinds rule.maps request in
+      let asked = mapped kinds.map rule.maps request in
       let lim = limits rule asked in
       (end ≡ par_end kinds lim rule.merges done)
       ⊎ (((par_end kinds lim rule.merges done ≡ None) × (end ≡ Some (par_deadline kinds lim rule.merges (ends_from 0 (length rule.merges) done))))
@@ -62,7 +62,7 @@ module _ {M G : Type 0} (kinds : Kinds M G) where
   -- a parallel node of this rule, whose subs had these completions
   pub record StandsBy (path : List ℕ) (rule : Rule M G) (done : List (ℕ × End)) (par : Par G) (states : States M G) : Type 0 where
     pub request : List ℕ
-    pub same_limits : par.limits ≡ limits rule (mapped kinds rule.maps request)
+    pub same_limits : par.limits ≡ limits rule (mapped kinds.map rule.maps request)
     pub same_merges : par.merges ≡ rule.merges
     pub by_index : ends_of states ≡ ends_from 0 (length rule.merges) done
     pub ends : EndsBy path rule request done par.end

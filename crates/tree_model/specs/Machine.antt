@@ -119,7 +119,7 @@ module _ {M G : Type 0} (kinds : Kinds M G) where
     start_at node (leaf_plan leaf) call request moment =
         record { state = leaf_state leaf request started; sends = sent leaf call node request 0 1; marks = leaf_marks leaf node moment }
     start_at node (par_plan rule plans) call request moment =
-        let asked = mapped kinds rule.maps request in
+        let asked = mapped kinds.map rule.maps request in
         let lim = limits rule asked in
         par_run node rule.timeout moment lim rule.merges (par_started plans (start_subs (node + 1) plans call asked lim rule.merges moment []) (refused asked))
     start_at node (sel_plan timeout plans) call request moment = sel_run node timeout request moment (start_tries (node + 1) plans call request moment)

@@ -14,14 +14,14 @@ use Rattle.tree_model.specs.Plan.{Rule}
 
 -- ---- requests
 
--- the mappers' answers from the sub of this index on, among so many
-abbrev pub mapped_from : {M G : Type 0} → Kinds M G → ℕ → ℕ → List M → List ℕ → List Mapped
-mapped_from kinds index count [] request = []
-mapped_from kinds index count (map ∷ maps) request = kinds.map map index count request ∷ mapped_from kinds (index + 1) count maps request
+-- what mappers of a type answer that answer so, from the sub of this index on, among so many
+abbrev pub mapped_from : {M : Type 0} → (M → ℕ → ℕ → List ℕ → Mapped) → ℕ → ℕ → List M → List ℕ → List Mapped
+mapped_from answer_of index count [] request = []
+mapped_from answer_of index count (map ∷ maps) request = answer_of map index count request ∷ mapped_from answer_of (index + 1) count maps request
 
 -- the mappers' answers by rising index
-abbrev pub mapped : {M G : Type 0} → Kinds M G → List M → List ℕ → List Mapped
-mapped kinds maps request = mapped_from kinds 0 (length maps) maps request
+abbrev pub mapped : {M : Type 0} → (M → ℕ → ℕ → List ℕ → Mapped) → List M → List ℕ → List Mapped
+mapped answer_of maps request = mapped_from answer_of 0 (length maps) maps request
 
 abbrev pub is_bad : Mapped → Bool
 is_bad (answer.Send text) = false
@@ -61,13 +61,13 @@ fold_on next so_far fails fail merge.Fail = if fails + 1 == fail then Bad ETOOMA
 fold_on next so_far fails fail merge.FailAll = Bad ERESPONSE
 
 -- the parts that are left are merged into the value so far
-abbrev pub fold_from : {M G : Type 0} → Kinds M G → List (Part G) → ℕ → Option (List ℕ) → ℕ → End
-fold_from kinds [] fail so_far fails = Good (unwrap_or so_far [])
-fold_from kinds (part ∷ parts) fail so_far fails = fold_on (fold_from kinds parts fail) so_far fails fail (kinds.merge part.merge so_far part.index part.text)
+abbrev pub fold_from : {G : Type 0} → (G → Option (List ℕ) → ℕ → List ℕ → Merged) → List (Part G) → ℕ → Option (List ℕ) → ℕ → End
+fold_from answer_of [] fail so_far fails = Good (unwrap_or so_far [])
+fold_from answer_of (part ∷ parts) fail so_far fails = fold_on (fold_from answer_of parts fail) so_far fails fail (answer_of part.merge so_far part.index part.text)
 
 -- the parts, in rising order of their subs, are merged, where so many subs failed already and this many may not
-abbrev pub fold_parts : {M G : Type 0} → Kinds M G → List (Part G) → ℕ → ℕ → End
-fold_parts kinds parts fails fail = fold_from kinds parts fail None fails
+abbrev pub fold_parts : {G : Type 0} → (G → Option (List ℕ) → ℕ → List ℕ → Merged) → List (Part G) → ℕ → ℕ → End
+fold_parts answer_of parts fails fail = fold_from answer_of parts fail None fails
 
 -- ---- the end, from the subs' ends by index, none where a sub hasn't ended
 
@@ -107,14 +107,14 @@ parts_of merges ends = parts_from 0 merges ends
 abbrev pub judged : {M G : Type 0} → Kinds M G → Limits → List G → List (Option End) → Option End
 judged kinds limits merges ends =
     if nat_le limits.fail (bads ends) then Some (Bad ETOOMANYFAILS)
-    else if nat_le limits.ok (goods ends) || nat_le limits.count (goods ends + bads ends) then Some (fold_parts kinds (parts_of merges ends) (bads ends) limits.fail)
+    else if nat_le limits.ok (goods ends) || nat_le limits.count (goods ends + bads ends) then Some (fold_parts kinds.merge (parts_of merges ends) (bads ends) limits.fail)
     else None
 
 -- the end that the node's deadline brings: each sub that hasn't ended has failed
 abbrev pub par_deadline : {M G : Type 0} → Kinds M G → Limits → List G → List (Option End) → End
 par_deadline kinds limits merges ends =
     let fails = limits.count - goods ends in
-    if nat_le limits.fail fails then Bad ERPCTIMEDOUT else fold_parts kinds (parts_of merges ends) fails limits.fail
+    if nat_le limits.fail fails then Bad ERPCTIMEDOUT else fold_parts kinds.merge (parts_of merges ends) fails limits.fail
 
 -- ---- the same from the completions: the subs that ended, each with its end, the last one first
 

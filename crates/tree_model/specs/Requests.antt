@@ -17,7 +17,7 @@ module _ {M G : Type 0} (kinds : Kinds M G) where
     IsOf request (sel_plan timeout plans) (leaf_state c q leaf) = ⊥
     IsOf request (leaf_plan chan) (par_state par states) = ⊥
     IsOf request (par_plan rule plans) (par_state par states) =
-        (par.limits ≡ limits rule (mapped kinds rule.maps request)) × (par.merges ≡ rule.merges) × SubsAreOf (mapped kinds rule.maps request) plans states
+        (par.limits ≡ limits rule (mapped kinds.map rule.maps request)) × (par.merges ≡ rule.merges) × SubsAreOf (mapped kinds.map rule.maps request) plans states
     IsOf request (sel_plan timeout plans) (par_state par states) = ⊥
     IsOf request (leaf_plan chan) (sel_state sel states) = ⊥
     IsOf request (par_plan rule plans) (sel_state sel states) = ⊥
