@@ -11,6 +11,8 @@ use Rattle.tree_model.specs.declared.mapper.Mapped.{Mapped}
 use Rattle.tree_model.specs.declared.mapper.Mapped.TheVariants.{Send, Skip, Bad}
 use Rattle.tree_model.specs.declared.merger.Merged.{Merged as MergedTo}
 use Rattle.tree_model.specs.declared.merger.Merged.TheVariants.{Merged, Fail, FailAll}
+use Rattle.tree_model.specs.declared.merger.Verdict.{Verdict}
+use Rattle.tree_model.specs.declared.merger.Verdict.TheVariants as verdict
 
 -- How the mappers and mergers of two types answer.
 pub record Kinds (M G : Type 0) : Type 0 where
@@ -58,6 +60,12 @@ merge_answer merge_kind.Cat so_far index part = Merged (unwrap_or so_far [] ++ p
 merge_answer merge_kind.Sum so_far index part = summed so_far part
 merge_answer merge_kind.Same so_far index part = same_as so_far part
 merge_answer merge_kind.Drop so_far index part = Fail
+
+-- the value after a merger's answer, and what came of it
+abbrev pub merged_into : Option (List ℕ) → MergedTo → Option (List ℕ) × Verdict
+merged_into so_far (Merged text) = (Some text, verdict.Taken)
+merged_into so_far Fail = (so_far, verdict.Fail)
+merged_into so_far FailAll = (so_far, verdict.FailAll)
 
 -- the kinds of mapper and merger that a script has
 abbrev pub script_kinds : Kinds MapKind MergeKind

@@ -23,5 +23,5 @@ pub use laws::{
 };
 pub use mapper::{Mapped, Mapper};
 pub use meaning::Meaning;
-pub use merger::{Merged, Merger};
+pub use merger::{Merged, Merger, Verdict};
 pub use part::Part;

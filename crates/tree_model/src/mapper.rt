@@ -31,7 +31,13 @@ impl Mapper for MapKind {
 
     ghost answer = { map_answer };
 
-    fn map(&self, alloc: Global, index: u32, _count: u32, request: &[u8]) -> Result<Mapped, NoMemory> {
+    fn map(
+        &self,
+        alloc: Global,
+        index: u32,
+        _count: u32,
+        request: &[u8],
+    ) -> Result<Mapped, NoMemory> {
         match self {
             MapKind::Same => Ok(Mapped::Send(copied(alloc, request)?)),
             MapKind::Index => Ok(Mapped::Send(indexed(alloc, request, index)?)),

@@ -13,18 +13,54 @@ pub enum Merged {
     FailAll,
 }
 
+/// What came of merging a part into the value so far.
+#[derive(Clone, Copy, Debug, PartialEq, Eq)]
+pub enum Verdict {
+    /// The value is the next one.
+    Taken,
+    /// The part counts as a failed sub call, and the value is as it was.
+    Fail,
+    /// The whole parallel call fails.
+    FailAll,
+}
+
 /// Merges the answer of a sub channel into the value so far: brpc's `ResponseMerger`.
 pub trait Merger {
-    ghost use Rattle.std.specs.Prelude.{◌≡◌, ℕ, List, Option, IfOk};
+    ghost use Rattle.std.specs.Prelude.{◌≡◌, ℕ, List, Option, IfOk, OnOk};
     ghost use Rattle.std.specs.Option.{option_map};
     ghost use Rattle.tree_model.specs.declared.merger.Merged.{Merged};
+    ghost use Rattle.tree_model.specs.Kinds.{merged_into};
 
     /// What it answers, as a function of the value so far, the sub's index and the part.
     ghost answer: { Self → Option (List ℕ) → ℕ → List ℕ → Merged };
 
     /// What becomes of the value so far, none before the first, with the part of the sub of this index.
-    fn merge(&self, alloc: Global, so_far: Option<&[u8]>, index: u32, part: &[u8]) -> Result<Merged, NoMemory>
+    fn merge(
+        &self,
+        alloc: Global,
+        so_far: Option<&[u8]>,
+        index: u32,
+        part: &[u8],
+    ) -> Result<Merged, NoMemory>
         ensures answer { IfOk result (λ merged. merged ≡ answer self.now (option_map (λ s. s.now) so_far.entry) index part.now) };
+
+    /// The same, with the next value in the place of the value so far. A merger that can do this without copying the
+    /// value so far writes its own. After want of memory the value is unspecified.
+    fn merge_into(
+        &self,
+        alloc: Global,
+        so_far: &mut Option<Bytes>,
+        index: u32,
+        part: &[u8],
+    ) -> Result<Verdict, NoMemory>
+        ensures into { IfOk result (λ verdict. (so_far.new, verdict) ≡ merged_into so_far.old (answer self.now so_far.old index part.now)) }
+    {
+        let merged = match so_far {
+            None => self.merge(alloc, None, index, part)?,
+            Some(value) => self.merge(alloc, Some(value.list()), index, part)?,
+        };
+        Ok(put(so_far, merged))
+    }
 }
 
 impl Merger for MergeKind {
@@ -32,7 +68,13 @@ impl Merger for MergeKind {
 
     ghost answer = { merge_answer };
 
-    fn merge(&self, alloc: Global, so_far: Option<&[u8]>, _index: u32, part: &[u8]) -> Result<Merged, NoMemory> {
+    fn merge(
+        &self,
+        alloc: Global,
+        so_far: Option<&[u8]>,
+        _index: u32,
+        part: &[u8],
+    ) -> Result<Merged, NoMemory> {
         match self {
             MergeKind::Cat => Ok(Merged::Merged(joined(alloc, so_far, part)?)),
             MergeKind::Sum => summed(alloc, so_far, part),
@@ -40,12 +82,30 @@ impl Merger for MergeKind {
             MergeKind::Drop => Ok(Merged::Fail),
         }
     }
+
+    fn merge_into(
+        &self,
+        alloc: Global,
+        so_far: &mut Option<Bytes>,
+        index: u32,
+        part: &[u8],
+    ) -> Result<Verdict, NoMemory> {
+        if let MergeKind::Cat = self {
+            append(alloc, so_far, part)?;
+            return Ok(Verdict::Taken);
+        }
+        let merged = match so_far {
+            None => self.merge(alloc, None, index, part)?,
+            Some(value) => self.merge(alloc, Some(value.list()), index, part)?,
+        };
+        Ok(put(so_far, merged))
+    }
 }
 
-ghost use Rattle.std.specs.Prelude.{◌≡◌, ℕ, ◌+◌, ◌*◌, ◌-◌, ◌^◌, ◌<◌, ◌≤◌, ◌++◌, true, false, [], IfOk, Option, None, Some, MatchOption, unwrap_or};
+ghost use Rattle.std.specs.Prelude.{◌≡◌, ℕ, ◌+◌, ◌*◌, ◌-◌, ◌^◌, ◌<◌, ◌≤◌, ◌++◌, true, false, [], IfOk, OnOk, Option, None, Some, MatchOption, unwrap_or};
 ghost use Rattle.std.specs.Option.{option_map};
 ghost use Rattle.rpc_model.specs.Words.{is_numeral as numeral_test, all_within as within_test, digits_after};
-ghost use Rattle.tree_model.specs.Kinds.{is_number as number_test, sum_of as sum_answer, summed as summed_answer, same_as};
+ghost use Rattle.tree_model.specs.Kinds.{is_number as number_test, summed as summed_answer, same_as, merged_into};
 
 /// The value so far followed by the part.
 fn joined(alloc: Global, so_far: Option<&[u8]>, part: &[u8]) -> Result<Bytes, NoMemory>
@@ -57,6 +117,33 @@ fn joined(alloc: Global, so_far: Option<&[u8]>, part: &[u8]) -> Result<Bytes, No
     }
     value.extend_from_slice(part)?;
     Ok(Bytes::of(value))
+}
+
+/// Puts the next value in the place of the value so far, if there is one.
+fn put(so_far: &mut Option<Bytes>, merged: Merged) -> Verdict
+    ensures { (so_far.new, result) ≡ merged_into so_far.old merged }
+{
+    match merged {
+        Merged::Merged(value) => {
+            *so_far = Some(value);
+            Verdict::Taken
+        }
+        Merged::Fail => Verdict::Fail,
+        Merged::FailAll => Verdict::FailAll,
+    }
+}
+
+/// Puts the part behind the value so far, which isn't copied.
+fn append(alloc: Global, so_far: &mut Option<Bytes>, part: &[u8]) -> Result<(), NoMemory>
+    ensures { OnOk result (so_far.new ≡ Some (unwrap_or so_far.old [] ++ part.now)) }
+{
+    let mut value = match so_far.take() {
+        None => Vec::new(alloc),
+        Some(value) => value.into_vec(),
+    };
+    value.extend_from_slice(part)?;
+    *so_far = Some(Bytes::of(value));
+    Ok(())
 }
 
 fn copied(alloc: Global, bytes: &[u8]) -> Result<Merged, NoMemory>
