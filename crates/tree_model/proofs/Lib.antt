@@ -8,7 +8,7 @@ mod Sends
 mod Requests
 mod Paths
 mod Parallels
-mod Versions
+pub mod Versions
 mod Even
 mod Ended
 mod Replies

@@ -1,0 +1,5 @@
+pub mod Code
+pub mod Shown
+pub mod Falls
+pub mod Sound
+pub mod Counting
