@@ -1,2 +1,3 @@
 mod Fuel
 mod Widths
+pub mod Turns

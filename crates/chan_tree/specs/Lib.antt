@@ -3,3 +3,4 @@ pub mod Shown
 pub mod Falls
 pub mod Sound
 pub mod Counting
+pub mod Measures

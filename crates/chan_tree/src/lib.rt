@@ -1,7 +1,9 @@
 //! The plan of a call: the tree of its nodes, and the ids that its nodes and attempts get.
 #![tactic(auto)]
 
+mod measuring;
 mod tree;
 
+pub use measuring::Measure;
 pub use tree::{PlanNode, PlanTree, Rule};
 pub use tree_model::{Chan, ParChan, PartChan, SelChan, Sub, Tag};

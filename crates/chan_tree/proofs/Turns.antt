@@ -1,0 +1,23 @@
+-- One try or one part more.
+use Rattle.std.proofs.Common.{◌≡◌, ℕ, zero, suc, ◌+◌, ◌-◌, ◌%◌, ◌<◌, ◌≤◌, List, [], ◌∷◌, length, Option, Some, None, arith, refl, ap, sym, ◌∙◌, slice_index}
+use Rattle.tree_model.specs.declared.chan.PartChan.{PartChan}
+use Rattle.tree_model.specs.Plan.{servers_of, tries_from}
+use Rattle.tree_model.specs.Faults.{or_missing, missing_from}
+
+left : (at count : ℕ) → at < count → count - at ≡ suc (count - (at + 1))
+left at count less = omega (arith, less)
+
+none-left : (at count : ℕ) → count ≤ at → count - at ≡ 0
+none-left at count le = omega (arith, le)
+
+pub tries_next : (subs : List ℕ) (call at count : ℕ) → at < count → tries_from subs call at (count - at) ≡ slice_index subs ((call + at) % length subs) ∷ tries_from subs call (at + 1) (count - (at + 1))
+tries_next subs call at count less = ap (tries_from subs call at) (left at count less)
+
+pub tries_end : (subs : List ℕ) (call at count : ℕ) → count ≤ at → tries_from subs call at (count - at) ≡ []
+tries_end subs call at count le = ap (tries_from subs call at) (none-left at count le)
+
+pub parts_next : {M G : Type 0} (chan : PartChan M G) (part : ℕ) → part < chan.parts → missing_from chan part (chan.parts - part) ≡ or_missing part (servers_of chan.tags chan.parts part) (missing_from chan (part + 1) (chan.parts - (part + 1)))
+parts_next chan part less = ap (missing_from chan part) (left part chan.parts less)
+
+pub parts_end : {M G : Type 0} (chan : PartChan M G) (part : ℕ) → chan.parts ≤ part → missing_from chan part (chan.parts - part) ≡ None
+parts_end chan part le = ap (missing_from chan part) (none-left part chan.parts le)
