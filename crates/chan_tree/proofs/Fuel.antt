@@ -55,7 +55,7 @@ plans-same : {M G : Type 0} (n : ℕ) (f g : ℕ → Option (Plan M G)) (subs : 
 plans-same n f g [] h same = refl
 plans-same n f g (s ∷ subs) h same = ap (λ o. and_plan o (plans_of f subs)) (same s h.0) ∙ ap (and_plan (g s)) (plans-same n f g subs h.1 same)
 
-index-before : (n : ℕ) (subs : List ℕ) (i : ℕ) → AreBefore n subs → i < length subs → slice_index subs i < n
+pub index-before : (n : ℕ) (subs : List ℕ) (i : ℕ) → AreBefore n subs → i < length subs → slice_index subs i < n
 index-before n [] i h less = absurd (omega (arith, less))
 index-before n (s ∷ subs) zero h less = h.0
 index-before n (s ∷ subs) (suc i) h less = index-before n subs i h.1 (omega (arith, less))

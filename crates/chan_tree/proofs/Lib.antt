@@ -1,3 +1,5 @@
-mod Fuel
-mod Widths
+pub mod Fuel
+pub mod Widths
 pub mod Turns
+pub mod Kids
+pub mod Built

@@ -1,7 +1,7 @@
 -- One try or one part more.
 use Rattle.std.proofs.Common.{◌≡◌, ℕ, zero, suc, ◌+◌, ◌-◌, ◌%◌, ◌<◌, ◌≤◌, List, [], ◌∷◌, length, Option, Some, None, arith, refl, ap, sym, ◌∙◌, slice_index}
 use Rattle.tree_model.specs.declared.chan.PartChan.{PartChan}
-use Rattle.tree_model.specs.Plan.{servers_of, tries_from}
+use Rattle.tree_model.specs.Plan.{Plans, leaf_plan, last_plan, plan_then, servers_of, tries_from, part_leaf, part_plans}
 use Rattle.tree_model.specs.Faults.{or_missing, missing_from}
 
 left : (at count : ℕ) → at < count → count - at ≡ suc (count - (at + 1))
@@ -21,3 +21,9 @@ parts_next chan part less = ap (missing_from chan part) (left part chan.parts le
 
 pub parts_end : {M G : Type 0} (chan : PartChan M G) (part : ℕ) → chan.parts ≤ part → missing_from chan part (chan.parts - part) ≡ None
 parts_end chan part le = ap (missing_from chan part) (none-left part chan.parts le)
+
+pub leaves_next : {M G : Type 0} (chan : PartChan M G) (part : ℕ) → part < chan.parts → part_plans chan part (chan.parts - part) ≡ plan_then (leaf_plan (part_leaf chan part)) (part_plans chan (part + 1) (chan.parts - (part + 1)))
+leaves_next chan part less = ap (part_plans chan part) (left part chan.parts less)
+
+pub leaves_end : {M G : Type 0} (chan : PartChan M G) (part : ℕ) → chan.parts ≤ part → part_plans chan part (chan.parts - part) ≡ last_plan
+leaves_end chan part le = ap (part_plans chan part) (none-left part chan.parts le)

@@ -31,3 +31,9 @@ is_some_server (server ∷ servers) = true
 -- the numbers of the channels of these subs
 abbrev pub numbers_of : {M G : Type 0} → List (Sub M G) → List ℕ
 numbers_of {M} {G} subs = map (λ (s : Sub M G). s.chan) subs
+
+abbrev pub maps_of : {M G : Type 0} → List (Sub M G) → List M
+maps_of {M} {G} subs = map (λ (s : Sub M G). s.map) subs
+
+abbrev pub merges_of : {M G : Type 0} → List (Sub M G) → List G
+merges_of {M} {G} subs = map (λ (s : Sub M G). s.merge) subs

@@ -1,6 +1,7 @@
 //! The plan of a call: the tree of its nodes, and the ids that its nodes and attempts get.
 #![tactic(auto)]
 
+mod building;
 mod measuring;
 mod tree;
 

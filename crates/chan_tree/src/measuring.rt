@@ -131,7 +131,7 @@ fn missing_try(sel: &SelChan, call: u32, before: &[Measure]) -> Option<u32>
 }
 
 /// The sub of this try: the number (call + try), counted round the subs.
-fn try_at(subs: &[u32], call: u32, at: u64) -> u32
+pub fn try_at(subs: &[u32], call: u32, at: u64) -> u32
     requires some { 1 ≤ length subs.now }
     requires few { at < 2 ^ 33 }
     ensures { result ≡ slice_index subs.now ((call + at) % length subs.now) }

@@ -6,7 +6,7 @@ use std::marker::Model;
 #[cycle(plan)]
 #[derive(Drop)]
 pub struct PlanTree<M, G> {
-    node: PlanNode<M, G>,
+    pub(crate) node: PlanNode<M, G>,
 }
 
 /// A node of a plan.
