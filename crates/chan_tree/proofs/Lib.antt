@@ -3,3 +3,5 @@ pub mod Widths
 pub mod Turns
 pub mod Kids
 pub mod Built
+mod Rising
+pub mod Tables

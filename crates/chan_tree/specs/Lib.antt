@@ -4,3 +4,4 @@ pub mod Falls
 pub mod Sound
 pub mod Counting
 pub mod Measures
+pub mod Table

@@ -3,6 +3,8 @@
 
 mod building;
 mod measuring;
+mod places;
+mod table;
 mod tree;
 
 pub use measuring::Measure;
