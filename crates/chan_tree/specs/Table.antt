@@ -36,6 +36,16 @@ module _ {M G : Type 0} where
     leaf_counts_of last_plan = []
     leaf_counts_of (plan_then plan plans) = leaf_counts plan ++ leaf_counts_of plans
 
+-- the numbers together
+abbrev pub total : List ℕ → ℕ
+total [] = 0
+total (x ∷ xs) = x + total xs
+
+-- each is at least 1
+abbrev pub AreSome : List ℕ → Type 0
+AreSome [] = Unit {0}
+AreSome (c ∷ counts) = (1 ≤ c) × AreSome counts
+
 -- numbers that rise
 abbrev pub IsRising : List ℕ → Type 0
 IsRising xs = (i j : ℕ) → i < j → j < length xs → get_or xs i 0 < get_or xs j 0

@@ -75,3 +75,48 @@ fn add_trees<M, G>(trees: &[PlanTree<M, G>], to: &mut Table) -> Result<(), NoMem
     add_trees(rest, to)?;
     Ok(())
 }
+
+ghost use Rattle.std.specs.Prelude.{◌<◌, length, position, slice_get, Option, None, Some};
+ghost use Rattle.std.specs.List.{IsDistinct};
+ghost use Rattle.tree_model.specs.declared.meaning.Meaning.TheVariants.{Attempt};
+
+use crate::places::last_up_to;
+
+/// The place of an attempt of a node among all attempts, from the three lists of a table.
+pub fn place_of(
+    leaves: &[u32],
+    firsts: &[u32],
+    counts: &[u32],
+    node: u32,
+    attempt: u32,
+) -> Option<u32>
+    requires rising { table.IsRising leaves.now }
+    requires same { length leaves.now ≡ length counts.now }
+    requires firsts { firsts.now ≡ table.firsts_from 0 counts.now }
+    requires distinct { IsDistinct versions.is_same (table.attempts_by leaves.now counts.now) }
+    requires few { table.total counts.now ≤ 4096 }
+    ensures { result ≡ position (versions.is_same (Attempt node attempt)) (table.attempts_by leaves.now counts.now) }
+{
+    match leaves.binary_search(&node) {
+        Err(_behind) => None,
+        Ok(at) => {
+            if attempt < counts[at] {
+                Some(firsts[at] + attempt)
+            } else {
+                None
+            }
+        }
+    }
+}
+
+/// The leaf and the attempt at a place among all attempts.
+pub fn attempt_at(leaves: &[u32], firsts: &[u32], counts: &[u32], place: u32) -> (u32, u32)
+    requires some { table.AreSome counts.now }
+    requires same { length leaves.now ≡ length counts.now }
+    requires firsts { firsts.now ≡ table.firsts_from 0 counts.now }
+    requires within { place < table.total counts.now }
+    ensures { slice_get (table.attempts_by leaves.now counts.now) place ≡ Some (Attempt result.0 result.1) }
+{
+    let at = last_up_to(firsts, place);
+    (leaves[at], place - firsts[at])
+}

@@ -174,7 +174,7 @@ nodes-and-attempts first (suc count) low high xs w d =
 
 -- ---- how many
 
-length-nodes : (first count : ℕ) → length (node_versions first count) ≡ count
+pub length-nodes : (first count : ℕ) → length (node_versions first count) ≡ count
 length-nodes first zero = refl
 length-nodes first (suc count) = ap suc (length-nodes (first + 1) count)
 
@@ -197,7 +197,7 @@ module _ {M G : Type 0} where
         (wider (node + nodes plan) (node + nodes plan + nodes_of plans) node (node + (nodes plan + nodes_of plans)) (attempt_versions_of (node + nodes plan) plans) (omega arith) (omega arith) (all-within (node + nodes plan) plans))
 
   mutual
-    attempts-distinct : (node : ℕ) (plan : Plan M G) → IsDistinct is_same (attempt_versions node plan)
+    pub attempts-distinct : (node : ℕ) (plan : Plan M G) → IsDistinct is_same (attempt_versions node plan)
     attempts-distinct node (leaf_plan leaf) = leaf-distinct node 0 (leaf.retry + 1)
     attempts-distinct node (par_plan rule plans) = all-distinct (node + 1) plans
     attempts-distinct node (sel_plan timeout plans) = all-distinct (node + 1) plans
