@@ -5,3 +5,4 @@ pub mod Kids
 pub mod Built
 mod Rising
 pub mod Tables
+pub mod Offsets

@@ -279,3 +279,10 @@ module _ (leaves counts : List ℕ) (node attempt : ℕ) (same : length leaves �
       by : (k : ℕ) → k < length leaves → get_or leaves k 0 ≡ node → (k < i) ⊎ (i ≤ k) → ⊥
       by k short here (inl less) = let b = below k less in omega (arith, b, here)
       by k short here (inr le) = let a = above k le short in omega (arith, a, here)
+
+module _ {M G : Type 0} where
+  pub same_length : (p : Plan M G) → length (leaf_nodes 0 p) ≡ length (leaf_counts p)
+  same_length p = same-length 0 p
+
+  pub some_counts : (p : Plan M G) → AreSome (leaf_counts p)
+  some_counts p = some-counts p

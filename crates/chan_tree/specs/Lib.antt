@@ -5,3 +5,5 @@ pub mod Sound
 pub mod Counting
 pub mod Measures
 pub mod Table
+pub mod Tabled
+pub mod Asked

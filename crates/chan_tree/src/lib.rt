@@ -4,9 +4,13 @@
 mod building;
 mod measuring;
 mod places;
+mod planning;
+mod plans;
 mod table;
 mod tree;
 
 pub use measuring::Measure;
+pub use planning::{PlanFault, plan};
+pub use plans::Plan;
 pub use tree::{PlanNode, PlanTree, Rule};
 pub use tree_model::{Chan, ParChan, PartChan, SelChan, Sub, Tag};

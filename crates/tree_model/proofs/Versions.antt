@@ -43,7 +43,7 @@ is-same (Attempt n k) = let a : (n == n) ≡ true = grind (arith, nat_tests) in 
 
 -- ---- places
 
-position-cons : (p : Meaning → Bool) (x : Meaning) (xs : List Meaning) → position p (x ∷ xs) ≡ cond (p x) (Some 0) (option_map suc (position p xs))
+pub position-cons : (p : Meaning → Bool) (x : Meaning) (xs : List Meaning) → position p (x ∷ xs) ≡ cond (p x) (Some 0) (option_map suc (position p xs))
 position-cons p x xs = by (p x) refl (nat_lt (position_or_len p xs) (length xs)) refl
   where
     by : (v : Bool) → p x ≡ v → (w : Bool) → nat_lt (position_or_len p xs) (length xs) ≡ w → position p (x ∷ xs) ≡ cond v (Some 0) (option_map suc (cond w (Some (position_or_len p xs)) None))
