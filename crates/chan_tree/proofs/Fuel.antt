@@ -1,10 +1,9 @@
 -- What is defined on channels by how deep they may nest hangs on the subs alone.
-use Rattle.std.proofs.Common.{◌≡◌, ℕ, zero, suc, ◌+◌, ◌%◌, ◌<◌, ◌≤◌, max, List, [], ◌∷◌, length, Option, Some, None, arith, refl, ap, sym, ◌∙◌, subst, slice_get, slice_index}
-use Rattle.std.specs.List.{AllByRecursion}
+use Rattle.std.proofs.Common.{◌≡◌, ℕ, zero, suc, ◌+◌, ◌%◌, ◌<◌, ◌≤◌, List, [], ◌∷◌, length, Option, Some, None, arith, refl, ap, sym, ◌∙◌, subst, slice_get, slice_index}
 use Rattle.tree_model.specs.declared.chan.Chan.{Chan}
 use Rattle.tree_model.specs.declared.chan.Chan.TheVariants as chan
 use Rattle.tree_model.specs.declared.chan.SelChan.{SelChan}
-use Rattle.tree_model.specs.Plan.{Plan, Plans, and_plan, plans_of, par_over, sel_over, rule_of, subs_of, tries, tries_from, chan_plan, plan_within, plan}
+use Rattle.tree_model.specs.Plan.{Plan, and_plan, plans_of, par_over, sel_over, rule_of, subs_of, tries, tries_from, chan_plan, plan_within, plan}
 use Rattle.tree_model.specs.Faults.{deepest, first_missing, or_later, chan_depth, depth_within, depth, chan_missing, missing_within, missing_part}
 use Rattle.chan_tree.specs.Sound.{AreBefore, IsSound, AreSound}
 use Rattle.chan_tree.specs.Counting.{total, chan_width, width_within, width_of}
@@ -68,21 +67,21 @@ pub sel-before : (n call : ℕ) (sel : SelChan) → (1 ≤ length sel.subs) × A
 sel-before n call sel h = tries-before n sel.subs call 0 (sel.retry + 1) h.0 h.1
 
 module _ {M G : Type 0} where
-  depth-looks : (n : ℕ) (f g : ℕ → ℕ) (c : Option (Chan M G)) → SoundIf n c → Agree n f g → chan_depth f c ≡ chan_depth g c
+  pub depth-looks : (n : ℕ) (f g : ℕ → ℕ) (c : Option (Chan M G)) → SoundIf n c → Agree n f g → chan_depth f c ≡ chan_depth g c
   depth-looks n f g None h same = refl
   depth-looks n f g (Some (chan.Leaf leaf)) h same = refl
   depth-looks n f g (Some (chan.Par par)) h same = ap (λ d. 1 + d) (deepest-same n f g (subs_of par) h same)
   depth-looks n f g (Some (chan.Sel sel)) h same = ap (λ d. 1 + d) (deepest-same n f g sel.subs h.1 same)
   depth-looks n f g (Some (chan.Part part)) h same = refl
 
-  width-looks : (call n : ℕ) (f g : ℕ → ℕ) (c : Option (Chan M G)) → SoundIf n c → Agree n f g → chan_width f call c ≡ chan_width g call c
+  pub width-looks : (call n : ℕ) (f g : ℕ → ℕ) (c : Option (Chan M G)) → SoundIf n c → Agree n f g → chan_width f call c ≡ chan_width g call c
   width-looks call n f g None h same = refl
   width-looks call n f g (Some (chan.Leaf leaf)) h same = refl
   width-looks call n f g (Some (chan.Par par)) h same = ap (λ d. 1 + d) (total-same n f g (subs_of par) h same)
   width-looks call n f g (Some (chan.Sel sel)) h same = ap (λ d. 1 + d) (total-same n f g (tries sel call) (sel-before n call sel h) same)
   width-looks call n f g (Some (chan.Part part)) h same = refl
 
-  missing-looks : (call n : ℕ) (f g : ℕ → Option ℕ) (c : Option (Chan M G)) → SoundIf n c → Agree n f g → chan_missing f call c ≡ chan_missing g call c
+  pub missing-looks : (call n : ℕ) (f g : ℕ → Option ℕ) (c : Option (Chan M G)) → SoundIf n c → Agree n f g → chan_missing f call c ≡ chan_missing g call c
   missing-looks call n f g None h same = refl
   missing-looks call n f g (Some (chan.Leaf leaf)) h same = refl
   missing-looks call n f g (Some (chan.Par par)) h same = missing-same n f g (subs_of par) h same

@@ -6,3 +6,4 @@ pub mod Built
 mod Rising
 pub mod Tables
 pub mod Offsets
+pub mod Judged

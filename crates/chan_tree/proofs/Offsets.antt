@@ -1,14 +1,14 @@
 -- The versions of a range by the counts and the table of a plan.
-use Rattle.std.proofs.Common.{◌≡◌, ℕ, zero, suc, ◌+◌, ◌-◌, ◌<◌, ◌≤◌, cond, List, [], ◌∷◌, ◌++◌, length, position, slice_get, Option, Some, None, arith, refl, ap, sym, ◌∙◌, subst}
+use Rattle.std.proofs.Common.{◌≡◌, ℕ, zero, suc, ◌+◌, ◌-◌, ◌<◌, ◌≤◌, List, ◌++◌, position, slice_get, Option, Some, None, arith, refl, ap, sym, ◌∙◌, subst}
 use Rattle.std.specs.List.{IsDistinct}
 use Rattle.std.specs.Option.{option_map}
 use Rattle.std.proofs.lemmas.Option.{slice_get_past}
 use Rattle.tree_model.specs.declared.meaning.Meaning.{Meaning}
 use Rattle.tree_model.specs.declared.meaning.Meaning.TheVariants.{Node, Attempt}
 use Rattle.tree_model.specs.Plan.{Plan}
-use Rattle.tree_model.specs.Versions.{nodes, possible_attempts, node_versions, attempt_versions, is_same, versions, width, offset_of, meaning_of}
+use Rattle.tree_model.specs.Versions.{nodes, node_versions, attempt_versions, is_same, versions, width, offset_of, meaning_of}
 use Rattle.tree_model.proofs.Versions.{position-cons, offset-meaning, attempts-distinct, width-is}
-use Rattle.chan_tree.specs.Table.{attempts_by, leaf_nodes, leaf_counts, total, IsRising, AreSome}
+use Rattle.chan_tree.specs.Table.{attempts_by, leaf_nodes, leaf_counts, total, IsRising}
 use Rattle.chan_tree.proofs.Tables.{total-counts, attempts-are, leaves-rise, rises}
 
 get-node : (first count : ℕ) (ys : List Meaning) (k : ℕ) → k < count → slice_get (node_versions first count ++ ys) k ≡ Some (Node (first + k))

@@ -1,13 +1,14 @@
 -- The table of a plan's leaves gives the versions of its range.
-use Rattle.std.proofs.Common.{◌≡◌, ℕ, zero, suc, ◌+◌, ◌-◌, ◌<◌, ◌≤◌, ◌⊎◌, inl, inr, Bool, true, false, cond, ◌==◌, ◌&&◌, nat_lt, List, [], ◌∷◌, ◌++◌, length, get_or, position, slice_get, Option, Some, None, arith, refl, ap, sym, ◌∙◌, subst, length-append}
+use Rattle.std.proofs.Common.{◌≡◌, ℕ, zero, suc, ◌+◌, ◌-◌, ◌<◌, ◌≤◌, ◌⊎◌, inl, inr, Bool, true, false, ◌==◌, ◌&&◌, nat_lt, List, [], ◌∷◌, ◌++◌, length, get_or, position, slice_get, Some, None, arith, refl, ap, sym, ◌∙◌, subst, length-append}
 use Rattle.std.proofs.lemmas.Bool.Decides.{nat_tests}
 use Rattle.std.specs.List.{IsDistinct}
 use Rattle.std.proofs.lemmas.List.{append_assoc, append-nil}
 use Rattle.tree_model.specs.declared.meaning.Meaning.{Meaning}
-use Rattle.tree_model.specs.declared.meaning.Meaning.TheVariants.{Node, Attempt}
+use Rattle.tree_model.specs.declared.meaning.Meaning.TheVariants.{Attempt}
 use Rattle.tree_model.specs.Plan.{Plan, leaf_plan, par_plan, sel_plan, Plans, last_plan, plan_then}
-use Rattle.tree_model.specs.Versions.{nodes, nodes_of, possible_attempts, possible_attempts_of, node_versions, leaf_versions, attempt_versions, attempt_versions_of, is_same, versions, width, offset_of, meaning_of}
-use Rattle.tree_model.proofs.Versions.{Apart, apart-append, apart-above, leaf-apart-past, position-of, position-none, versions-distinct, offset-meaning, width-is}
+use Rattle.tree_model.specs.Versions.{nodes, nodes_of, possible_attempts, possible_attempts_of, leaf_versions, attempt_versions, attempt_versions_of, is_same}
+use Rattle.rpc_model.proofs.First.{position_some}
+use Rattle.tree_model.proofs.Versions.{length-leaf as count-versions, Apart, apart-append, leaf-apart-past, position-of, position-none}
 use Rattle.chan_tree.specs.Table.{firsts_from, attempts_by, leaf_nodes, leaf_nodes_of, leaf_counts, leaf_counts_of, total, AreSome, IsRising, IsLastUpTo}
 
 total-append : (xs ys : List ℕ) → total (xs ++ ys) ≡ total xs + total ys
@@ -286,3 +287,21 @@ module _ {M G : Type 0} where
 
   pub some_counts : (p : Plan M G) → AreSome (leaf_counts p)
   some_counts p = some-counts p
+
+length-by : (leaves counts : List ℕ) → length (attempts_by leaves counts) ≤ total counts
+length-by [] [] = omega arith
+length-by [] (c ∷ counts) = omega arith
+length-by (n ∷ leaves) [] = omega arith
+length-by (n ∷ leaves) (c ∷ counts) =
+    let h = length-by leaves counts in
+    let l = length-append (leaf_versions n 0 c) (attempts_by leaves counts) in
+    let k = count-versions n 0 c in
+    omega (arith, h, l, k)
+
+-- What is found among the attempts has a place below their number.
+pub place-short : (leaves counts : List ℕ) (m : Meaning) (i : ℕ) → Some i ≡ position (is_same m) (attempts_by leaves counts) → i < total counts
+place-short leaves counts m i e =
+    let place = position_some (is_same m) (attempts_by leaves counts) i (sym e) in
+    let within = place.1 in
+    let l = length-by leaves counts in
+    omega (arith, within, l)

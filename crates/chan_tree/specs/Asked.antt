@@ -17,5 +17,8 @@ module _ {M G : Type 0} where
   IsRefused chans number call Memory = Unit {0}
 
   -- it nests no deeper than eight channels, each part has a server, and this is its plan, no wider than 1,024 versions
-  abbrev pub IsGranted : List (Chan M G) → ℕ → ℕ → Plan M G → Type 0
-  IsGranted chans number call p = (depth chans number ≤ 8) × (missing_part chans number call ≡ None) × (plan chans number call ≡ Some p) × (width p ≤ 1024)
+  pub record IsGranted (chans : List (Chan M G)) (number call : ℕ) (p : Plan M G) : Type 0 where
+    pub shallow : depth chans number ≤ 8
+    pub no_part_missing : missing_part chans number call ≡ None
+    pub planned : plan chans number call ≡ Some p
+    pub narrow : width p ≤ 1024

@@ -1,5 +1,5 @@
 -- A sub has fewer nodes than its parent.
-use Rattle.std.specs.Prelude.{ℕ, ◌+◌, ◌≤◌, max, List, [], ◌∷◌}
+use Rattle.std.specs.Prelude.{◌+◌, ◌≤◌, max, List, [], ◌∷◌}
 use Rattle.std.proofs.Common.{arith}
 use denote.Param.Weighed.{most}
 use Rattle.chan_tree.specs.declared.tree.PlanNode.{PlanNode}

@@ -1,5 +1,5 @@
 -- The lists of channels that have plans: each channel names only channels before it. This project's own choice.
-use Rattle.std.specs.Prelude.{ℕ, suc, ◌<◌, ◌≤◌, List, [], ◌∷◌, length, Option, None, Some}
+use Rattle.std.specs.Prelude.{ℕ, suc, ◌<◌, ◌≤◌, List, [], ◌∷◌, length}
 use Rattle.std.specs.List.{AllByRecursion}
 use Rattle.tree_model.specs.declared.chan.Chan.{Chan}
 use Rattle.tree_model.specs.declared.chan.Chan.TheVariants as chan

@@ -29,21 +29,29 @@ pub fn build<M: Copy, G: Copy>(
     match &chans[number as usize] {
         Chan::Leaf(leaf) => {
             let leaf = leaf_copy(alloc, leaf)?;
-            Ok(PlanTree { node: PlanNode::Leaf(leaf) })
+            Ok(PlanTree {
+                node: PlanNode::Leaf(leaf),
+            })
         }
         Chan::Par(par) => {
             let rule = rule_of(alloc, par)?;
             let kids = build_subs(alloc, chans, number, par.subs.list(), call)?;
-            Ok(PlanTree { node: PlanNode::Par(rule, kids) })
+            Ok(PlanTree {
+                node: PlanNode::Par(rule, kids),
+            })
         }
         Chan::Sel(sel) => {
             let kids = build_tries(alloc, chans, number, sel, call)?;
-            Ok(PlanTree { node: PlanNode::Sel(sel.timeout, kids) })
+            Ok(PlanTree {
+                node: PlanNode::Sel(sel.timeout, kids),
+            })
         }
         Chan::Part(part) => {
             let rule = part_rule(alloc, part)?;
             let kids = build_parts(alloc, part)?;
-            Ok(PlanTree { node: PlanNode::Par(rule, kids) })
+            Ok(PlanTree {
+                node: PlanNode::Par(rule, kids),
+            })
         }
     }
 }
@@ -156,7 +164,10 @@ fn copied<X: Copy>(alloc: Global, count: u32, x: X) -> Result<Vec<X>, NoMemory>
 
 /// The leaves of the parts of a partition channel.
 #[tactic(auto, using(crate::proofs::Kids::append_push, crate::proofs::Kids::append_end, crate::proofs::Turns::leaves_next, crate::proofs::Turns::leaves_end))]
-fn build_parts<M: Copy, G: Copy>(alloc: Global, part: &PartChan<M, G>) -> Result<Vec<PlanTree<M, G>>, NoMemory>
+fn build_parts<M: Copy, G: Copy>(
+    alloc: Global,
+    part: &PartChan<M, G>,
+) -> Result<Vec<PlanTree<M, G>>, NoMemory>
     ensures { IfOk result (λ kids. plans_shown kids.items ≡ spec.part_plans part.now 0 part.now.parts) }
 {
     let mut kids = Vec::new(alloc);
@@ -164,13 +175,19 @@ fn build_parts<M: Copy, G: Copy>(alloc: Global, part: &PartChan<M, G>) -> Result
     let mut at = 0u32;
     while at < parts {
         let leaf = part_leaf(alloc, part, at)?;
-        kids.push(PlanTree { node: PlanNode::Leaf(leaf) })?;
+        kids.push(PlanTree {
+            node: PlanNode::Leaf(leaf),
+        })?;
         at += 1;
     }
     Ok(kids)
 }
 
-fn part_leaf<M: Copy, G: Copy>(alloc: Global, part: &PartChan<M, G>, at: u32) -> Result<LeafChan, NoMemory>
+fn part_leaf<M: Copy, G: Copy>(
+    alloc: Global,
+    part: &PartChan<M, G>,
+    at: u32,
+) -> Result<LeafChan, NoMemory>
     ensures { IfOk result (λ leaf. leaf ≡ spec.part_leaf part.now at) }
 {
     Ok(LeafChan {

@@ -43,7 +43,9 @@ fn depth<M, G>(chan: &Chan<M, G>, before: &[Measure]) -> u32
 {
     match chan {
         Chan::Leaf(_) => 1,
-        Chan::Par(par) => deepest_sub(par.subs.list(), before).saturating_add(1).min(9),
+        Chan::Par(par) => deepest_sub(par.subs.list(), before)
+            .saturating_add(1)
+            .min(9),
         Chan::Sel(sel) => deepest(sel.subs.list(), before).saturating_add(1).min(9),
         Chan::Part(_) => 2,
     }
@@ -220,7 +222,9 @@ fn width_tries(sel: &SelChan, call: u32, before: &[Measure]) -> u32
         if width == 1024 {
             return 1024;
         }
-        width = width.saturating_add(width_at(before, try_at(subs, call, at))).min(1024);
+        width = width
+            .saturating_add(width_at(before, try_at(subs, call, at)))
+            .min(1024);
         at += 1;
     }
     width

@@ -7,7 +7,7 @@ use crate::building::build;
 use crate::measuring::{Measure, measure_chan};
 use crate::plans::{Plan, tabled};
 use rpc_base::NoMemory;
-use std::alloc::{AllocError, Global};
+use std::alloc::Global;
 use tree_model::Chan;
 
 /// Why a channel has no plan that a call may run. They are looked at in this order. The rules are this project's own.
@@ -23,22 +23,11 @@ pub enum PlanFault {
     Memory,
 }
 
-impl From<AllocError> for PlanFault {
-    fn from(_: AllocError) -> PlanFault {
-        PlanFault::Memory
-    }
-}
-
-impl From<NoMemory> for PlanFault {
-    fn from(_: NoMemory) -> PlanFault {
-        PlanFault::Memory
-    }
-}
-
 /// The plan of the channel of this number for a call of this number.
 ///
 /// Each channel names only channels before it, each plain one has a server, and each selective one a sub. Depth, parts and
 /// width are counted from the channels, before anything is built. After a refusal nothing is left behind.
+#[tactic(auto, using(crate::proofs::Judged::too_wide, crate::proofs::Judged::narrow, crate::proofs::Judged::granted))]
 pub fn plan<M: Copy, G: Copy>(
     alloc: Global,
     chans: &[Chan<M, G>],
@@ -50,7 +39,9 @@ pub fn plan<M: Copy, G: Copy>(
     ensures granted { IfOk result (λ p. IsGranted chans.now number call p) }
     ensures refused { IfErr result (λ fault. IsRefused chans.now number call fault) }
 {
-    let measure = measure_of(alloc, chans, number, call)?;
+    let Ok(measure) = measure_of(alloc, chans, number, call) else {
+        return Err(PlanFault::Memory);
+    };
     if measure.depth > 8 {
         return Err(PlanFault::TooDeep(9));
     }
@@ -60,8 +51,12 @@ pub fn plan<M: Copy, G: Copy>(
     if measure.width > 1024 {
         return Err(PlanFault::TooWide(1025));
     }
-    let tree = build(alloc, chans, number, call)?;
-    let plan = tabled(alloc, tree)?;
+    let Ok(tree) = build(alloc, chans, number, call) else {
+        return Err(PlanFault::Memory);
+    };
+    let Ok(plan) = tabled(alloc, tree) else {
+        return Err(PlanFault::Memory);
+    };
     Ok(plan)
 }
 

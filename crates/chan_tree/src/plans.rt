@@ -38,7 +38,10 @@ impl<M, G> Model for Plan<M, G> {
 }
 
 /// A tree with the table of its leaves.
-pub(crate) fn tabled<M: Drop, G: Drop>(alloc: Global, tree: PlanTree<M, G>) -> Result<Plan<M, G>, NoMemory>
+pub(crate) fn tabled<M: Drop, G: Drop>(
+    alloc: Global,
+    tree: PlanTree<M, G>,
+) -> Result<Plan<M, G>, NoMemory>
     requires few { versions.width tree ≤ 1024 }
     ensures { IfOk result (λ p. p ≡ tree) }
 {
@@ -50,7 +53,13 @@ pub(crate) fn tabled<M: Drop, G: Drop>(alloc: Global, tree: PlanTree<M, G>) -> R
         counts: Vec::new(alloc),
     };
     add_tree(&tree, &mut table)?;
-    let Table { nodes, attempts, leaves, firsts, counts } = table;
+    let Table {
+        nodes,
+        attempts,
+        leaves,
+        firsts,
+        counts,
+    } = table;
     Ok(Plan {
         tree,
         nodes,

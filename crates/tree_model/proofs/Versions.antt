@@ -178,7 +178,7 @@ pub length-nodes : (first count : ℕ) → length (node_versions first count) �
 length-nodes first zero = refl
 length-nodes first (suc count) = ap suc (length-nodes (first + 1) count)
 
-length-leaf : (node first count : ℕ) → length (leaf_versions node first count) ≡ count
+pub length-leaf : (node first count : ℕ) → length (leaf_versions node first count) ≡ count
 length-leaf node first zero = refl
 length-leaf node first (suc count) = ap suc (length-leaf node (first + 1) count)
 

@@ -1,7 +1,6 @@
-use Rattle.std.proofs.Common.{◌≡◌, ℕ, ◌+◌, ◌*◌, ◌-◌, ◌≤◌, ◌<◌, ◌++◌, Some, length, drop}
-use Rattle.tree_model.specs.Plan as spec
-use Rattle.tree_model.specs.Plan.{tries, tries_from, copies, servers_of, part_plans}
-use Rattle.chan_tree.specs.Measures.{numbers_of, maps_of, merges_of}
+use Rattle.std.proofs.Common.{◌≡◌, ◌+◌, ◌*◌, ◌-◌, ◌≤◌, drop}
+use Rattle.tree_model.specs.Plan.{tries, tries_from}
+use Rattle.chan_tree.specs.Measures.{numbers_of}
 use Rattle.chan_tree.specs.Shown.{AreLeft}
 use Rattle.chan_tree.proofs.building.+build.Given as goal
 

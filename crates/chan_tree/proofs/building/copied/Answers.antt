@@ -1,5 +1,5 @@
 -- One copy more.
-use Rattle.std.proofs.Common.{rules, arith, ◌≡◌, ◌<◌, ◌≤◌, ◌-◌, ◌++◌, [], ◌∷◌, ap, ◌∙◌}
+use Rattle.std.proofs.Common.{arith, ◌-◌, ◌++◌, ap, ◌∙◌}
 use Rattle.tree_model.specs.Plan.{copies}
 use Rattle.chan_tree.proofs.Built.{copy-next}
 use Rattle.chan_tree.proofs.building.copied.Goals as goal

@@ -1,8 +1,5 @@
-use Rattle.std.proofs.Common.{◌≡◌, ℕ, ◌+◌, ◌*◌, ◌-◌, ◌≤◌, ◌<◌, ◌++◌, Some, length, drop}
-use Rattle.tree_model.specs.Plan as spec
-use Rattle.tree_model.specs.Plan.{tries, tries_from, copies, servers_of, part_plans}
-use Rattle.chan_tree.specs.Measures.{numbers_of, maps_of, merges_of}
-use Rattle.chan_tree.specs.Shown.{append_plans}
+use Rattle.std.proofs.Common.{◌≡◌, ◌++◌}
+use Rattle.tree_model.specs.Plan.{copies}
 use Rattle.chan_tree.proofs.building.copied.Given as goal
 
 abbrev pub invariant-loop-left : goal.invariant-loop-left

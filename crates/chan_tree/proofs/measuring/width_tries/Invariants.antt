@@ -1,8 +1,7 @@
-use Rattle.std.proofs.Common.{◌≡◌, ℕ, ◌+◌, ◌-◌, ◌≤◌, ◌<◌, min, max, drop}
-use Rattle.tree_model.specs.Faults.{deepest, first_missing, missing_from}
-use Rattle.chan_tree.specs.Measures.{depth_in, missing_in, width_in, numbers_of, is_some_server}
+use Rattle.std.proofs.Common.{◌≡◌, ◌+◌, ◌-◌, ◌≤◌, min}
+use Rattle.chan_tree.specs.Measures.{width_in}
 use Rattle.chan_tree.specs.Counting.{total}
-use Rattle.tree_model.specs.Plan.{servers_of, tries, tries_from}
+use Rattle.tree_model.specs.Plan.{tries, tries_from}
 use Rattle.chan_tree.proofs.measuring.width_tries.Given as goal
 
 abbrev pub invariant-loop-at : goal.invariant-loop-at

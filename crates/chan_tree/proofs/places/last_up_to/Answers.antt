@@ -1,6 +1,5 @@
-use Rattle.std.proofs.Common.{rules, ◌≡◌, ℕ, zero, suc, ◌+◌, ◌-◌, ◌<◌, ◌≤◌, length, List, get_or, arith, refl, subst, ap, Ok, Err}
+use Rattle.std.proofs.Common.{Ok, Err}
 use Rattle.std.proofs.lemmas.List.Sorted.{searched}
-use Rattle.chan_tree.specs.Table.{IsRising, IsLastUpTo}
 use Rattle.chan_tree.proofs.Rising.{weakly, behind-some, last-at, last-behind}
 use Rattle.chan_tree.proofs.places.last_up_to.Goals as goal
 

@@ -1,5 +1,5 @@
 -- The channels so far are measured.
-use Rattle.std.proofs.Common.{◌≡◌, ℕ, ◌-◌, ◌≤◌}
+use Rattle.std.proofs.Common.{◌≡◌, ◌-◌, ◌≤◌}
 use Rattle.chan_tree.specs.Measures.{measures}
 use Rattle.chan_tree.proofs.planning.measure_of.Given as goal
 

@@ -1,5 +1,5 @@
 -- The leaves of one tree, and then those of the others.
-use Rattle.std.proofs.Common.{rules, arith, ◌≡◌, ℕ, ◌+◌, ◌*◌, ◌≤◌, ◌<◌, ◌++◌, ap, sym, ◌∙◌}
+use Rattle.std.proofs.Common.{rules, arith, ◌++◌, ap, sym, ◌∙◌}
 use Rattle.std.proofs.lemmas.List.{append_assoc}
 use Rattle.tree_model.specs.Versions as versions
 use Rattle.chan_tree.specs.Table as table

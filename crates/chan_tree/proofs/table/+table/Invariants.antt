@@ -1,4 +1,4 @@
-use Rattle.std.proofs.Common.{ℕ, ◌+◌, ◌*◌}
+use Rattle.std.proofs.Common.{◌+◌, ◌*◌}
 use Rattle.tree_model.specs.Versions.{nodes, nodes_of}
 use Rattle.chan_tree.specs.Shown.{plans_of}
 use Rattle.chan_tree.proofs.table.+table.Given as goal

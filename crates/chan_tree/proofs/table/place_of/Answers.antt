@@ -1,7 +1,6 @@
 -- An attempt stands behind the first one of its leaf.
-use Rattle.std.proofs.Common.{rules, arith, ◌≡◌, ℕ, ◌+◌, ◌-◌, ◌<◌, ◌≤◌, length, get_or, Some, Ok, Err, ap, sym, ◌∙◌, subst}
+use Rattle.std.proofs.Common.{arith, ◌+◌, length, get_or, Some, Ok, Err, ap, sym, ◌∙◌}
 use Rattle.std.proofs.lemmas.List.Sorted.{searched}
-use Rattle.chan_tree.specs.Table as table
 use Rattle.chan_tree.proofs.Rising.{weakly}
 use Rattle.chan_tree.proofs.Tables.{length-firsts, within-total, found-place, past-place, absent-place}
 use Rattle.chan_tree.proofs.table.place_of.Goals as goal
