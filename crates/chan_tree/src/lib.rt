@@ -14,3 +14,6 @@ pub use planning::{PlanFault, plan};
 pub use plans::Plan;
 pub use tree::{PlanNode, PlanTree, Rule};
 pub use tree_model::{Chan, ParChan, PartChan, SelChan, Sub, Tag};
+
+#[cfg(test)]
+mod tests;

@@ -25,3 +25,6 @@ pub use mapper::{Mapped, Mapper};
 pub use meaning::Meaning;
 pub use merger::{Merged, Merger, Verdict};
 pub use part::Part;
+
+#[cfg(test)]
+mod tests;
