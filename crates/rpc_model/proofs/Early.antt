@@ -40,14 +40,6 @@ lesser-length x xs (Some (least, ms)) mark others some e = by (is_before least x
     by true e = some least ms refl ∙ others-length (least, x ∷ ms) (mark, others) e
     by false e = others-length (x, xs) (mark, others) e
 
-lesser-some : (x : Mark) (xs : List Mark) (o : Option (Mark × List Mark)) → lesser x xs o ≡ None → ⊥
-lesser-some x xs None e = cc
-lesser-some x xs (Some (least, ms)) e = by (is_before least x) e
-  where
-    by : (v : Bool) → cond {A = Option (Mark × List Mark)} v (Some (least, x ∷ ms)) (Some (x, xs)) ≡ None → ⊥
-    by true e = cc
-    by false e = cc
-
 pub least-length : (xs : List Mark) (mark : Mark) (others : List Mark) → least_mark xs ≡ Some (mark, others) → length xs ≡ suc (length others)
 least-length [] mark others e = absurd (cc)
 least-length (x ∷ xs) mark others e = ap suc (lesser-length x xs (least_mark xs) mark others (λ m ms f. least-length xs m ms f) e)

@@ -1,46 +1,27 @@
--- One word of the table of ids, and when it shows an id gone: the layout of the word is this project's own choice.
-use Rattle.std.specs.Prelude.{ℕ, ◌+◌, ◌/◌, ◌%◌, ◌^◌, Bool, not, ◌&&◌, ◌||◌, ◌==◌, nat_le, nat_lt}
+-- The word of an id's slot, and when it shows an id gone. The layout is this project's own choice: from bit 0 on, 16 bits for the head of the errors
+-- that wait, 3 for the state, 11 for the size of the range and 32 for its first version.
+use Rattle.std.specs.Prelude.{ℕ, Bool, not, ◌==◌, ◌&&◌, ◌||◌, nat_le, nat_lt, ◌+◌, ◌/◌, ◌%◌, ◌^◌}
 
--- the fields of a word, from its lowest bit on: 16 bits for the head of its queued errors, 3 for its state, 11 for the range and 32 for the first version
-pub record IdWord : Type 0 where
-  pub head : ℕ
-  pub state : ℕ
-  pub range : ℕ
-  pub first : ℕ
+-- the node at the head of the errors that wait, 0 where none does
+abbrev pub head_in : ℕ → ℕ
+head_in word = word % 65536
 
-abbrev pub id_word : ℕ → IdWord
-id_word word = record { head = word % 2 ^ 16; state = word / 2 ^ 16 % 2 ^ 3; range = word / 2 ^ 19 % 2 ^ 11; first = word / 2 ^ 30 % 2 ^ 32 }
+-- the state: 0 vacant, 1 reserved, 2 free, 3 locked, 4 ended, 5 retired
+abbrev pub code_in : ℕ → ℕ
+code_in word = word / 65536 % 8
 
--- the states
-abbrev pub vacant : ℕ
-vacant = 0
+-- the size of the range
+abbrev pub range_in : ℕ → ℕ
+range_in word = word / 524288 % 2048
 
-abbrev pub reserved : ℕ
-reserved = 1
+-- the first version of the range
+abbrev pub first_in : ℕ → ℕ
+first_in word = word / 1073741824 % 4294967296
 
-abbrev pub free : ℕ
-free = 2
+-- the version is live in the word: the range is free or locked, and has the version
+abbrev pub is_live_in : ℕ → ℕ → Bool
+is_live_in word version = (code_in word == 2 || code_in word == 3) && nat_le (first_in word) version && nat_lt version (first_in word + range_in word)
 
-abbrev pub locked : ℕ
-locked = 3
-
-abbrev pub ended : ℕ
-ended = 4
-
-abbrev pub retired : ℕ
-retired = 5
-
--- the version of an id, and its slot's number plus one
-abbrev pub version : ℕ → ℕ
-version id = id % 2 ^ 32
-
-abbrev pub slot_part : ℕ → ℕ
-slot_part id = id / 2 ^ 32
-
--- a version of a free or a locked range
-abbrev pub is_live : IdWord → ℕ → Bool
-is_live w v = (w.state == free || w.state == locked) && (nat_le w.first v && nat_lt v (w.first + w.range))
-
--- the word shows the id gone
-abbrev pub gone_by : (word id : ℕ) → Bool
-gone_by word id = not (is_live (id_word word) (version id))
+-- the word shows the id gone: the version in its low 32 bits isn't live
+abbrev pub gone_by : ℕ → ℕ → Bool
+gone_by word id = not (is_live_in word (id % 2 ^ 32))

@@ -10,5 +10,5 @@ loop-done-preserved g c =
       within = omega (arith, c.in_ok-done.ensures.some, c.split_at.ensures.back_len);
       written = b ∙ (rw c.loop-done.invariant.written (append_known-take _ c.args.bytes.now c.loop-done.done c.in_ok-done.field-0));
       closed = c.in_ok-done.ensures.closed ∙ c.loop-done.invariant.closed;
-      later = omega (arith, c.in_ok-done.ensures.cause.later);
+      kept = c.in_ok-done.ensures.cause.kept ∙ c.loop-done.invariant.kept;
     }

@@ -8,7 +8,7 @@ invariant-loop-done g l = record {
   within : l.done ≤ length l.bytes;
   written : g.O.WireOut.given l.wire ≡ append_known (g.O.WireOut.given l.fn.wire) (take l.done l.bytes);
   closed : g.O.WireOut.closed l.wire ≡ g.O.WireOut.closed l.fn.wire;
-  later : g.O.WireOut.faults l.fn.wire ≤ g.O.WireOut.faults l.wire;
+  kept : g.O.WireOut.faults l.wire ≡ g.O.WireOut.faults l.fn.wire;
 }
 
 abbrev pub decreases-loop-done : goal.decreases-loop-done
