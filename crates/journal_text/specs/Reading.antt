@@ -13,6 +13,7 @@ use Rattle.rpc_model.specs.declared.journal.How.TheVariants as how
 use Rattle.rpc_model.specs.declared.line.Line.{Line}
 use Rattle.rpc_model.specs.declared.line.Line.TheVariants as line
 use Rattle.rpc_model.specs.Texts.{line_text}
+use Rattle.journal_text.specs.Writing.{is_line}
 
 infixl 10 ◌>>=◌
 abbrev pub ◌>>=◌ : {A B : Type 0} → Option A → (A → Option B) → Option B
@@ -43,10 +44,6 @@ number32 word = number 4294967295 word
 
 abbrev pub number64 : List ℕ → Option ℕ
 number64 word = number 18446744073709551615 word
-
--- a moment below 2 ^ 60
-abbrev pub moment : List ℕ → Option ℕ
-moment word = number 1152921504606846975 word
 
 abbrev pub ok_of : Result (List ℕ) FromHexError → Option (List ℕ)
 ok_of (Ok bytes) = Some bytes
@@ -92,22 +89,6 @@ fate_said (kind ∷ a ∷ []) = fate_of_two kind a
 fate_said (kind ∷ a ∷ b ∷ []) = fate_of_three kind a b
 fate_said words = None
 
--- a frame is never dropped
-abbrev pub may_be_of_frame : Fate → Option Fate
-may_be_of_frame (fate.Dropped call) = None
-may_be_of_frame f = Some f
-
--- a loss, a mark and a cancel are never stray
-abbrev pub may_be_of_error : Fate → Option Fate
-may_be_of_error fate.Stray = None
-may_be_of_error f = Some f
-
-abbrev pub frame_fate : List (List ℕ) → Option Fate
-frame_fate words = fate_said words >>= may_be_of_frame
-
-abbrev pub error_fate : List (List ℕ) → Option Fate
-error_fate words = fate_said words >>= may_be_of_error
-
 -- ---- lines, by the words behind the first
 
 abbrev pub call_said : List (List ℕ) → Option Line
@@ -116,7 +97,7 @@ call_said (a ∷ b ∷ c ∷ d ∷ e ∷ []) = do
   first ← number64 b
   width ← number32 c
   lane ← number32 d
-  at ← moment e
+  at ← number64 e
   Some (line.Call call first width lane at)
 call_said words = None
 
@@ -124,7 +105,7 @@ call_said words = None
 abbrev pub reply_said : (at kind a b c d e : List ℕ) → Option Line
 reply_said at kind a b c d e = do
   _ ← guard (bytes_eq kind (codes "reply"))
-  m ← moment at
+  m ← number64 at
   attempt ← attempt_said a
   code ← number32 b
   text ← bytes_said c
@@ -136,7 +117,7 @@ reply_said at kind a b c d e = do
 abbrev pub lost_said : (at kind a b c d : List ℕ) → Option Line
 lost_said at kind a b c d = do
   _ ← guard (bytes_eq kind (codes "lost"))
-  m ← moment at
+  m ← number64 at
   attempt ← attempt_said a
   code ← number32 b
   wire ← number32 c
@@ -153,7 +134,7 @@ short_event kind m a b =
 -- a backup request, a deadline or a cancel
 abbrev pub short_said : (at kind a b : List ℕ) → Option Line
 short_said at kind a b = do
-  m ← moment at
+  m ← number64 at
   n ← number32 a
   place ← number64 b
   short_event kind m n place
@@ -183,7 +164,7 @@ in_said (a ∷ b ∷ c ∷ words) = do
   id ← number64 a
   code ← number32 b
   payload ← bytes_said c
-  became ← frame_fate words
+  became ← fate_said words
   Some (line.In (record { id = id; code = code; payload = payload; fate = became }))
 in_said words = None
 
@@ -192,7 +173,7 @@ loss_said (a ∷ b ∷ c ∷ words) = do
   id ← number64 a
   code ← number32 b
   after ← number64 c
-  became ← error_fate words
+  became ← fate_said words
   Some (line.Loss (record { id = id; code = code; after = after; fate = became }))
 loss_said words = None
 
@@ -206,7 +187,7 @@ mark_said (a ∷ b ∷ c ∷ d ∷ words) = do
   now ← number64 b
   id ← number64 c
   code ← number32 d
-  became ← error_fate words
+  became ← fate_said words
   Some (line.Mark (record { due = due; now = now; id = id; code = code; fate = became }))
 mark_said words = None
 
@@ -217,7 +198,7 @@ lane_said words = None
 abbrev pub cancel_said : List (List ℕ) → Option Line
 cancel_said (a ∷ words) = do
   id ← number64 a
-  became ← error_fate words
+  became ← fate_said words
   Some (line.Cancel (record { id = id; fate = became }))
 cancel_said words = None
 
@@ -240,9 +221,9 @@ abbrev pub words_said : List (List ℕ) → Option Line
 words_said [] = None
 words_said (kind ∷ words) = line_said kind words
 
--- a line is one that is spelled so
+-- a line that a journal may have, and that is spelled so
 abbrev pub spelled_so : List ℕ → Line → Option Line
-spelled_so bytes l = if bytes_eq (line_text l) bytes then Some l else None
+spelled_so bytes l = if is_line l && bytes_eq (line_text l) bytes then Some l else None
 
 -- the line that these bytes spell
 unfoldable pub line_of : List ℕ → Option Line

@@ -5,6 +5,7 @@
 
 mod draft;
 mod fault;
+mod kinds;
 mod lines;
 mod numbers;
 mod open;

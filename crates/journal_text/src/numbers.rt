@@ -54,13 +54,6 @@ pub(crate) fn number64(word: &[u8]) -> Option<u64>
     number(word, 18_446_744_073_709_551_615)
 }
 
-/// A moment below 2^60.
-pub(crate) fn moment(word: &[u8]) -> Option<u64>
-    ensures { result ≡ spec.moment word.now }
-{
-    number(word, 1_152_921_504_606_846_975)
-}
-
 /// The pieces between the bytes that are `at`.
 pub(crate) fn cut<'a>(alloc: Global, bytes: &'a [u8], at: u8) -> Result<Vec<&'a [u8]>, AllocError>
     ensures { IfOk result (λ pieces. map (λ p. p.now) pieces.items ≡ slice_split (λ b. b == at) bytes.now) }
@@ -144,7 +137,8 @@ fn fate_of_three(kind: &[u8], a: &[u8], b: &[u8]) -> Option<Fate>
     Some(Fate::Entry(call, place))
 }
 
-fn fate_said(words: &[&[u8]]) -> Option<Fate>
+/// What became of a source.
+pub(crate) fn fate_said(words: &[&[u8]]) -> Option<Fate>
     ensures { result ≡ spec.fate_said (map (λ w. w.now) words.now) }
 {
     match words {
@@ -152,25 +146,5 @@ fn fate_said(words: &[&[u8]]) -> Option<Fate>
         [kind, a] => fate_of_two(kind, a),
         [kind, a, b] => fate_of_three(kind, a, b),
         _ => None,
-    }
-}
-
-/// The fate of a frame, which is never dropped.
-pub(crate) fn frame_fate(words: &[&[u8]]) -> Option<Fate>
-    ensures { result ≡ spec.frame_fate (map (λ w. w.now) words.now) }
-{
-    match fate_said(words)? {
-        Fate::Dropped(_) => None,
-        fate => Some(fate),
-    }
-}
-
-/// The fate of a loss, a mark or a cancel, which is never stray.
-pub(crate) fn error_fate(words: &[&[u8]]) -> Option<Fate>
-    ensures { result ≡ spec.error_fate (map (λ w. w.now) words.now) }
-{
-    match fate_said(words)? {
-        Fate::Stray => None,
-        fate => Some(fate),
     }
 }

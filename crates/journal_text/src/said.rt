@@ -3,10 +3,9 @@
 ghost use Rattle.std.specs.Prelude.{◌≡◌, IfOk, map};
 ghost use Rattle.journal_text.specs.Reading as spec;
 
+use crate::kinds::is_line;
 use crate::lines::put_line;
-use crate::numbers::{
-    attempt_said, bytes_said, cut, error_fate, frame_fate, how_said, moment, number32, number64,
-};
+use crate::numbers::{attempt_said, bytes_said, cut, fate_said, how_said, number32, number64};
 use rpc_base::{Bytes, NoMemory};
 use rpc_model::{Came, CancelNote, Entry, Event, Fired, Line, LossNote, Origin, Sent};
 use std::alloc::Global;
@@ -22,7 +21,7 @@ pub(crate) fn line_of(alloc: Global, bytes: &[u8]) -> Result<Option<Line>, NoMem
     };
     let mut text = String::new(alloc);
     put_line(&mut text, &line)?;
-    if *text.as_bytes() != *bytes {
+    if !is_line(&line) || *text.as_bytes() != *bytes {
         return Ok(None);
     }
     Ok(Some(line))
@@ -85,7 +84,7 @@ fn call_said(words: &[&[u8]]) -> Option<Line>
             let first = number64(b)?;
             let width = number32(c)?;
             let lane = number32(d)?;
-            let moment = moment(e)?;
+            let moment = number64(e)?;
             Some(Line::Call {
                 call,
                 first,
@@ -113,7 +112,7 @@ fn entry_said(alloc: Global, words: &[&[u8]]) -> Result<Option<Line>, NoMemory>
 fn short_said(at: &[u8], kind: &[u8], a: &[u8], b: &[u8]) -> Option<Line>
     ensures { result ≡ spec.short_said at.now kind.now a.now b.now }
 {
-    let moment = moment(at)?;
+    let moment = number64(at)?;
     let number = number32(a)?;
     let place = number64(b)?;
     short_event(kind, moment, number, place)
@@ -163,7 +162,7 @@ fn lost_said(
     if *kind != *b"lost".as_slice() {
         return Ok(None);
     }
-    let Some(moment) = moment(at) else {
+    let Some(moment) = number64(at) else {
         return Ok(None);
     };
     let Some((node, attempt)) = attempt_said(alloc, a)? else {
@@ -204,7 +203,7 @@ fn reply_said(
     if *kind != *b"reply".as_slice() {
         return Ok(None);
     }
-    let Some(moment) = moment(at) else {
+    let Some(moment) = number64(at) else {
         return Ok(None);
     };
     let Some((node, attempt)) = attempt_said(alloc, a)? else {
@@ -281,7 +280,7 @@ fn in_said(alloc: Global, words: &[&[u8]]) -> Result<Option<Line>, NoMemory>
             let Some(payload) = bytes_said(alloc, c)? else {
                 return Ok(None);
             };
-            let Some(fate) = frame_fate(rest) else {
+            let Some(fate) = fate_said(rest) else {
                 return Ok(None);
             };
             Ok(Some(Line::In(Came {
@@ -303,7 +302,7 @@ fn loss_said(words: &[&[u8]]) -> Option<Line>
             let id = number64(a)?;
             let code = number32(b)?;
             let after = number64(c)?;
-            let fate = error_fate(rest)?;
+            let fate = fate_said(rest)?;
             Some(Line::Loss(LossNote {
                 id,
                 code,
@@ -333,7 +332,7 @@ fn mark_said(words: &[&[u8]]) -> Option<Line>
             let now = number64(b)?;
             let id = number64(c)?;
             let code = number32(d)?;
-            let fate = error_fate(rest)?;
+            let fate = fate_said(rest)?;
             Some(Line::Mark(Fired {
                 due,
                 now,
@@ -364,7 +363,7 @@ fn cancel_said(words: &[&[u8]]) -> Option<Line>
     match words {
         [a, rest @ ..] => {
             let id = number64(a)?;
-            let fate = error_fate(rest)?;
+            let fate = fate_said(rest)?;
             Some(Line::Cancel(CancelNote { id, fate }))
         }
         _ => None,

@@ -1,7 +1,7 @@
 -- The lines that are left go on from the draft as all lines do from the beginning.
 use Rattle.std.proofs.Common.{◌≡◌, ◌+◌, [], ◌∷◌, ◌++◌, map, drop}
 use Rattle.journal_text.specs.Drafts.{begun, with_pieces}
-use Rattle.journal_text.proofs.reading.read_journal.Given as goal
+use Rattle.journal_text.proofs.reading.read_text.Given as goal
 
 abbrev pub invariant-loop-before : goal.invariant-loop-before
 invariant-loop-before l =

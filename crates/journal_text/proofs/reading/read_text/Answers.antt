@@ -2,7 +2,7 @@
 use Rattle.std.proofs.Common.{◌≡◌, ℕ, ◌+◌, List, [], refl, ap, sym, ◌∙◌, arith, length, Bor, Ok, Err}
 use Rattle.rpc_model.specs.declared.journal.Journal.{Journal}
 use Rattle.journal_text.proofs.Taken.{taken, refused, at_end, may_not_end, no_newline, ends_there, reads_bad, judged_refused, text_is}
-use Rattle.journal_text.proofs.reading.read_journal.Goals as goal
+use Rattle.journal_text.proofs.reading.read_text.Goals as goal
 
 pub loop-before-init : goal.loop-before-init
 loop-before-init c = rw c.new-draft.ensures refl
