@@ -20,3 +20,4 @@ mod Logs
 mod Heard
 mod MomentsStay
 mod Runs
+mod Plain
