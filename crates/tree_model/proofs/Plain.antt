@@ -14,6 +14,7 @@ use Rattle.rpc_model.specs.declared.event.Event.TheVariants as event
 use Rattle.rpc_model.specs.declared.script.Act.{Act}
 use Rattle.rpc_model.specs.declared.script.Act.TheVariants.{Call, Cancel, Reply, Lose, Tick, Join}
 use Rattle.rpc_model.specs.declared.told.Told.{Told}
+use Rattle.rpc_model.specs.declared.told.Told.TheVariants.{Ended}
 use Rattle.rpc_model.specs.Leaf.{Leaf, leaf_step}
 use Rattle.rpc_model.specs.Machine.{Mark}
 use Rattle.rpc_model.specs.Plan as plain
@@ -21,14 +22,14 @@ use Rattle.rpc_model.specs.Machine as plain_machine
 use Rattle.rpc_model.specs.Marks as plain_marks
 use Rattle.rpc_model.specs.Told as plain_told
 use Rattle.rpc_model.specs.Early.{IsSparse, AreSparse}
-use Rattle.rpc_model.proofs.Early.{weave-fewer, after-sparse}
+use Rattle.rpc_model.proofs.Early.{least-length, taken-waits, after-sparse}
 use Rattle.tree_model.specs.declared.kinds.MapKind.{MapKind}
 use Rattle.tree_model.specs.declared.kinds.MergeKind.{MergeKind}
 use Rattle.tree_model.specs.declared.chan.Chan.{Chan}
 use Rattle.tree_model.specs.Plan.{Plan, leaf_plan, plan, chan_plan, plan_within}
 use Rattle.tree_model.specs.State.{State, leaf_state, end_of, attempts, quiet}
 use Rattle.tree_model.specs.Machine.{node_of, leaf_run, step_at}
-use Rattle.tree_model.specs.Marks.{Begun, begin, apply, is_before, set_mark, set_all, least_mark, take_mark, mark_event, marks_left, weave_at_most, weave_least, weave, finish_at_most, finish_least, finish}
+use Rattle.tree_model.specs.Marks.{Begun, begin, apply, is_before, set_mark, set_all, least_mark, take_mark, mark_event, marks_left, unstarted, weave_at_most, weave_least, weave, finish_at_most, finish_least, finish}
 use Rattle.tree_model.specs.Told as tree
 use Rattle.tree_model.specs.Plain.{chan_of, script_of, PlainScriptsTellTheSame}
 use Rattle.tree_model.proofs.Early.{weave-fuel, finish-fuel, set_all-length}
@@ -104,3 +105,168 @@ same-take b mark others = same-event mark.kind
     same-event : (kind : plain_machine.MarkKind) → apply (record (tree_call b) { waiting = sorted others }) (mark_event mark.node kind) mark.moment ≡ tree_call (plain_marks.apply (record b { waiting = others }) (plain_marks.mark_event mark.node kind) mark.moment)
     same-event plain_machine.deadline = same-apply (record b { waiting = others }) (event.Deadline mark.node) mark.moment
     same-event plain_machine.backup = same-apply (record b { waiting = others }) (event.Backup mark.node) mark.moment
+
+-- a plain call has two marks at the most
+few-left : (b : plain_marks.Begun) → length b.waiting ≤ 2 → marks_left (tree_call b) ≤ 2
+few-left b few = let l = set_all-length b.waiting [] in let u = none-unstarted b.plan b.request b.state in omega (arith, few, l, u)
+  where
+    none-unstarted : (p : plain.Plan) (request : List ℕ) (state : plain_machine.State) → unstarted (tree_state p request state) ≡ 0
+    none-unstarted (plain.leaf_plan leaf) request (plain_machine.leaf_state l) = refl
+
+most : (p : plain.Plan) → plain_marks.most_marks p ≡ 2
+most (plain.leaf_plan leaf) = refl
+
+fewer : (b : plain_marks.Begun) (mark : Mark) (others : List Mark) → plain_marks.least_mark b.waiting ≡ Some (mark, others) → length b.waiting ≤ 2 → length (plain_marks.take_mark b mark others).waiting ≤ 2
+fewer b mark others e few = let l = least-length b.waiting mark others e in let w = ap length (taken-waits b mark others) in omega (arith, l, w, few)
+
+-- ---- weaves and finishes
+
+weave-met : (n m : ℕ) (b : plain_marks.Begun) (o : Option (Mark × List Mark)) → plain_marks.least_mark b.waiting ≡ o → length b.waiting ≤ 2
+    → ((d : plain_marks.Begun) → length d.waiting ≤ 2 → weave_at_most n m (tree_call d) ≡ tree_call (plain_marks.weave_at_most n m d))
+    → weave_least (weave_at_most n m) m (tree_call b) (sorted_rest o) ≡ tree_call (plain_marks.weave_least (plain_marks.weave_at_most n m) m b o)
+unfolding sorted_rest
+weave-met n m b None e few again = refl
+weave-met n m b (Some (mark, others)) e few again = due (nat_le mark.moment m)
+  where
+    due : (v : Bool) → cond v (weave_at_most n m (take_mark (tree_call b) mark (sorted others))) (tree_call b) ≡ tree_call (cond v (plain_marks.weave_at_most n m (plain_marks.take_mark b mark others)) b)
+    due true = ap (weave_at_most n m) (same-take b mark others) ∙ again (plain_marks.take_mark b mark others) (fewer b mark others e few)
+    due false = refl
+
+weave-same : (n m : ℕ) (b : plain_marks.Begun) → length b.waiting ≤ 2 → weave_at_most n m (tree_call b) ≡ tree_call (plain_marks.weave_at_most n m b)
+weave-same zero m b few = refl
+weave-same (suc n) m b few =
+    ap (weave_least (weave_at_most n m) m (tree_call b)) (same-least b.waiting few) ∙ weave-met n m b (plain_marks.least_mark b.waiting) refl few (λ d hd. weave-same n m d hd)
+
+same-weave : (m : ℕ) (b : plain_marks.Begun) → length b.waiting ≤ 2 → weave m (tree_call b) ≡ tree_call (plain_marks.weave m b)
+same-weave m b few =
+    weave-fuel (marks_left (tree_call b)) 2 m (tree_call b) (omega arith) (few-left b few) ∙ weave-same 2 m b few ∙ ap (λ n. tree_call (plain_marks.weave_at_most n m b)) (sym (most b.plan))
+
+tree_finished : ℕ × plain_marks.Begun → ℕ × Begun
+tree_finished p = (p.0, tree_call p.1)
+
+finish-met : (n r : ℕ) (b : plain_marks.Begun) (o : Option (Mark × List Mark)) → plain_marks.least_mark b.waiting ≡ o → length b.waiting ≤ 2
+    → ((s : ℕ) (d : plain_marks.Begun) → length d.waiting ≤ 2 → finish_at_most n s (tree_call d) ≡ tree_finished (plain_marks.finish_at_most n s d))
+    → finish_least (finish_at_most n) r (tree_call b) (sorted_rest o) ≡ tree_finished (plain_marks.finish_least (plain_marks.finish_at_most n) r b o)
+unfolding sorted_rest tree_finished
+finish-met n r b None e few again = refl
+finish-met n r b (Some (mark, others)) e few again =
+    ap (finish_at_most n (max r mark.moment)) (same-take b mark others) ∙ again (max r mark.moment) (plain_marks.take_mark b mark others) (fewer b mark others e few)
+
+finish-same : (n r : ℕ) (b : plain_marks.Begun) → length b.waiting ≤ 2 → finish_at_most n r (tree_call b) ≡ tree_finished (plain_marks.finish_at_most n r b)
+unfolding tree_finished
+finish-same zero r b few = refl
+finish-same (suc n) r b few =
+    ap (λ end. cond (is_some end) (r, tree_call b) (finish_least (finish_at_most n) r (tree_call b) (least_mark (sorted b.waiting)))) (same-end b.plan b.request b.state)
+    ∙ over (is_some (plain_machine.end_of b.state)) (ap (finish_least (finish_at_most n) r (tree_call b)) (same-least b.waiting few) ∙ finish-met n r b (plain_marks.least_mark b.waiting) refl few (λ s d hd. finish-same n s d hd))
+  where
+    over : (v : Bool) → finish_least (finish_at_most n) r (tree_call b) (least_mark (sorted b.waiting)) ≡ tree_finished (plain_marks.finish_least (plain_marks.finish_at_most n) r b (plain_marks.least_mark b.waiting))
+        → cond v (r, tree_call b) (finish_least (finish_at_most n) r (tree_call b) (least_mark (sorted b.waiting))) ≡ tree_finished (cond v (r, b) (plain_marks.finish_least (plain_marks.finish_at_most n) r b (plain_marks.least_mark b.waiting)))
+    over true h = refl
+    over false h = h
+
+same-finish : (r : ℕ) (b : plain_marks.Begun) → length b.waiting ≤ 2 → finish r (tree_call b) ≡ tree_finished (plain_marks.finish r b)
+same-finish r b few =
+    finish-fuel (marks_left (tree_call b)) 2 r (tree_call b) (omega arith) (few-left b few) ∙ finish-same 2 r b few ∙ ap (λ n. tree_finished (plain_marks.finish_at_most n r b)) (sym (most b.plan))
+
+-- ---- calls
+
+abbrev tree_standing : plain_told.Standing → tree.Standing
+tree_standing (plain_told.begun b) = tree.begun (tree_call b)
+tree_standing (plain_told.full call) = tree.full call
+tree_standing (plain_told.told_of call) = tree.told_of call
+
+abbrev tree_replay : plain_told.Replay → tree.Replay
+tree_replay replay = record { reached = replay.reached; calls = map tree_standing replay.calls }
+
+same-call : (c : ℕ) (s : plain_told.Standing) → tree.is_call c (tree_standing s) ≡ plain_told.is_call c s
+same-call c (plain_told.begun b) = refl
+same-call c (plain_told.full call) = refl
+same-call c (plain_told.told_of call) = refl
+
+same-begun : (s : plain_told.Standing) → tree.is_begun (tree_standing s) ≡ plain_told.is_begun s
+same-begun (plain_told.begun b) = refl
+same-begun (plain_told.full call) = refl
+same-begun (plain_told.told_of call) = refl
+
+two : (b : plain_marks.Begun) → IsSparse (plain_told.begun b) → length b.waiting ≤ 2
+two b few = let m = most b.plan in omega (arith, few, m)
+
+same-event : (e : Event) (m : ℕ) (s : plain_told.Standing) → IsSparse s → tree.event_after e m (tree_standing s) ≡ tree_standing (plain_told.event_after e m s)
+same-event e m (plain_told.begun b) few = ap (λ d. tree.begun (apply d e m)) (same-weave m b (two b few)) ∙ ap tree.begun (same-apply (plain_marks.weave m b) e m)
+same-event e m (plain_told.full call) few = refl
+same-event e m (plain_told.told_of call) few = refl
+
+stands-joined : (b : plain_marks.Begun) (o : Option End) → tree.stand_joined (tree_call b) o ≡ tree_standing (plain_told.stand_joined b o)
+stands-joined b None = refl
+stands-joined b (Some end) = refl
+
+same-joined : (r : ℕ) (s : plain_told.Standing) → IsSparse s → tree.joined r (tree_standing s) ≡ tree_standing (plain_told.joined r s)
+unfolding tree_finished
+same-joined r (plain_told.begun b) few =
+    let d = (plain_marks.finish r b).1 in
+    ap (λ (p : ℕ × Begun). tree.stand_joined p.1 (end_of p.1.state)) (same-finish r b (two b few)) ∙ ap (tree.stand_joined (tree_call d)) (same-end d.plan d.request d.state) ∙ stands-joined d (plain_machine.end_of d.state)
+same-joined r (plain_told.full call) few = refl
+same-joined r (plain_told.told_of call) few = refl
+
+abbrev SparseIf : Option plain_told.Standing → Type 0
+SparseIf None = Unit {0}
+SparseIf (Some s) = IsSparse s
+
+same-moment : (r : ℕ) (o : Option plain_told.Standing) → SparseIf o → tree.joined_moment r (option_map tree_standing o) ≡ plain_told.joined_moment r o
+unfolding tree_finished
+same-moment r None few = refl
+same-moment r (Some (plain_told.begun b)) few = ap (λ (p : ℕ × Begun). p.0) (same-finish r b (two b few))
+same-moment r (Some (plain_told.full call)) few = refl
+same-moment r (Some (plain_told.told_of call)) few = refl
+
+told-end : (b : plain_marks.Begun) (o : Option End) → tree.join_end (tree_call b) o ≡ plain_told.join_end b o
+told-end b None = refl
+told-end b (Some end) = ap (λ n. Ended b.call end n) (same-attempts b.plan b.request b.state)
+
+same-told : (r : ℕ) (o : Option plain_told.Standing) → SparseIf o → tree.join_tells r (option_map tree_standing o) ≡ plain_told.join_tells r o
+unfolding tree_finished
+same-told r None few = refl
+same-told r (Some (plain_told.begun b)) few =
+    let d = (plain_marks.finish r b).1 in
+    ap (λ (p : ℕ × Begun). tree.join_end p.1 (end_of p.1.state) ∷ []) (same-finish r b (two b few)) ∙ ap (λ o. tree.join_end (tree_call d) o ∷ []) (same-end d.plan d.request d.state) ∙ ap (λ t. t ∷ []) (told-end d (plain_machine.end_of d.state))
+same-told r (Some (plain_told.full call)) few = refl
+same-told r (Some (plain_told.told_of call)) few = refl
+
+-- ---- lists of calls
+
+change-same : (c : ℕ) (f : plain_told.Standing → plain_told.Standing) (g : tree.Standing → tree.Standing) (xs : List plain_told.Standing) → AllByRecursion IsSparse xs → ((s : plain_told.Standing) → IsSparse s → g (tree_standing s) ≡ tree_standing (f s))
+    → tree.change_first (tree.is_call c) g (map tree_standing xs) ≡ map tree_standing (plain_told.change_first (plain_told.is_call c) f xs)
+change-same c f g [] few same = refl
+change-same c f g (x ∷ xs) few same =
+    ap (λ v. cond v (g (tree_standing x) ∷ map tree_standing xs) (tree_standing x ∷ tree.change_first (tree.is_call c) g (map tree_standing xs))) (same-call c x)
+    ∙ by (plain_told.is_call c x) (same x few.0) (change-same c f g xs few.1 same)
+  where
+    by : (v : Bool) → g (tree_standing x) ≡ tree_standing (f x) → tree.change_first (tree.is_call c) g (map tree_standing xs) ≡ map tree_standing (plain_told.change_first (plain_told.is_call c) f xs)
+        → cond v (g (tree_standing x) ∷ map tree_standing xs) (tree_standing x ∷ tree.change_first (tree.is_call c) g (map tree_standing xs)) ≡ map tree_standing (cond v (f x ∷ xs) (x ∷ plain_told.change_first (plain_told.is_call c) f xs))
+    by true here more = ap (λ s. s ∷ map tree_standing xs) here
+    by false here more = ap (λ ss. tree_standing x ∷ ss) more
+
+find-same : (c : ℕ) (xs : List plain_told.Standing) → find (tree.is_call c) (map tree_standing xs) ≡ option_map tree_standing (find (plain_told.is_call c) xs)
+find-same c [] = refl
+find-same c (x ∷ xs) = ap (λ v. cond v (Some (tree_standing x)) (find (tree.is_call c) (map tree_standing xs))) (same-call c x) ∙ by (plain_told.is_call c x) (find-same c xs)
+  where
+    by : (v : Bool) → find (tree.is_call c) (map tree_standing xs) ≡ option_map tree_standing (find (plain_told.is_call c) xs)
+        → cond v (Some (tree_standing x)) (find (tree.is_call c) (map tree_standing xs)) ≡ option_map tree_standing (cond v (Some x) (find (plain_told.is_call c) xs))
+    by true more = refl
+    by false more = more
+
+sparse-found : (c : ℕ) (xs : List plain_told.Standing) → AllByRecursion IsSparse xs → SparseIf (find (plain_told.is_call c) xs)
+sparse-found c [] few = tt
+sparse-found c (x ∷ xs) few = elim (plain_told.is_call c x) as (λ v. SparseIf (cond v (Some x) (find (plain_told.is_call c) xs))) [ true ↦ few.0 | false ↦ sparse-found c xs few.1 ]
+
+more-counted : {X : Type 0} (p : X → Bool) (x : X) (xs : List X) → count_by p (x ∷ xs) ≡ cond (p x) 1 0 + count_by p xs
+more-counted p x xs = sum_by-cons (λ y. cond (p y) 1 0) x xs
+
+count-same : (xs : List plain_told.Standing) → count_by tree.is_begun (map tree_standing xs) ≡ count_by plain_told.is_begun xs
+count-same [] = refl
+count-same (x ∷ xs) =
+    let a = more-counted tree.is_begun (tree_standing x) (map tree_standing xs) in
+    let b = more-counted plain_told.is_begun x xs in
+    let c = ap {B = ℕ} (λ v. cond v 1 0) (same-begun x) in
+    let h = count-same xs in
+    omega (arith, a, b, c, h)
