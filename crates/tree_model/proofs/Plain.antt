@@ -270,3 +270,86 @@ count-same (x ∷ xs) =
     let c = ap {B = ℕ} (λ v. cond v 1 0) (same-begun x) in
     let h = count-same xs in
     omega (arith, a, b, c, h)
+
+-- ---- plans
+
+get-map : {X Y : Type 0} (f : X → Y) (xs : List X) (i : ℕ) → slice_get (map f xs) i ≡ option_map f (slice_get xs i)
+get-map f [] i = refl
+get-map f (x ∷ xs) zero = refl
+get-map f (x ∷ xs) (suc i) = get-map f xs i
+
+same-chan : (plan_of : ℕ → Option (Plan MapKind MergeKind)) (call : ℕ) (c : Option PlainChan) → chan_plan plan_of call (option_map chan_of c) ≡ option_map tree_plan (plain.chan_plan c call)
+same-chan plan_of call None = refl
+same-chan plan_of call (Some (plain_chan.Leaf leaf)) = refl
+
+same-plan : (chans : List PlainChan) (number call : ℕ) → plan (map chan_of chans) number call ≡ option_map tree_plan (plain.plan chans number call)
+same-plan chans number call =
+    ap (chan_plan (plan_within number (map chan_of chans) call) call) (get-map chan_of chans number) ∙ same-chan (plan_within number (map chan_of chans) call) call (slice_get chans number)
+
+-- ---- a line
+
+same-full : (script : PlainScript) (replay : plain_told.Replay) → tree.is_full (script_of script) (tree_replay replay) ≡ plain_told.is_full script replay
+same-full script replay = ap (nat_le script.slots) (count-same replay.calls)
+
+stand-new : (v : Bool) (call : ℕ) (p : plain.Plan) (text : List ℕ) (m : ℕ) → tree.stand_new v call (tree_plan p) text m ≡ tree_standing (plain_told.stand_new v call p text m)
+stand-new true call p text m = refl
+stand-new false call p text m = ap tree.begun (same-begin call p text m)
+
+call-after : (script : PlainScript) (replay : plain_told.Replay) (m call : ℕ) (text : List ℕ) (o : Option plain.Plan) → tree.call_after (script_of script) (tree_replay replay) m call text (option_map tree_plan o) ≡ tree_replay (plain_told.call_after script replay m call text o)
+call-after script replay m call text None = refl
+call-after script replay m call text (Some p) =
+    ap (λ ss. record { reached = m; calls = ss })
+    (ap (λ v. map tree_standing replay.calls ++ tree.stand_new v call (tree_plan p) text m ∷ []) (same-full script replay)
+      ∙ ap (λ s. map tree_standing replay.calls ++ s ∷ []) (stand-new (plain_told.is_full script replay) call p text m) ∙ sym (map-append tree_standing replay.calls (plain_told.stand_new (plain_told.is_full script replay) call p text m ∷ [])))
+
+event-line : (replay : plain_told.Replay) (m call : ℕ) (e : Event) → AreSparse replay → tree.call_event (tree_replay replay) m call e ≡ tree_replay (plain_told.call_event replay m call e)
+event-line replay m call e few = ap (λ ss. record { reached = m; calls = ss }) (change-same call (plain_told.event_after e m) (tree.event_after e m) replay.calls few (λ s fits. same-event e m s fits))
+
+join-line : (replay : plain_told.Replay) (call : ℕ) → AreSparse replay → tree.call_join (tree_replay replay) call ≡ tree_replay (plain_told.call_join replay call)
+join-line replay call few =
+    ap (λ o. record { reached = tree.joined_moment replay.reached o; calls = tree.change_first (tree.is_call call) (tree.joined replay.reached) (map tree_standing replay.calls) }) (find-same call replay.calls)
+    ∙ ap (λ r. record { reached = r; calls = tree.change_first (tree.is_call call) (tree.joined replay.reached) (map tree_standing replay.calls) }) (same-moment replay.reached (find (plain_told.is_call call) replay.calls) (sparse-found call replay.calls few))
+    ∙ ap (λ ss. record { reached = plain_told.joined_moment replay.reached (find (plain_told.is_call call) replay.calls); calls = ss })
+    (change-same call (plain_told.joined replay.reached) (tree.joined replay.reached) replay.calls few (λ s fits. same-joined replay.reached s fits))
+
+same-after : (script : PlainScript) (replay : plain_told.Replay) (act : Act) → AreSparse replay → tree.after (script_of script) (tree_replay replay) act ≡ tree_replay (plain_told.after script replay act)
+unfolding tree.after plain_told.after
+same-after script replay (Call at call chan text) few =
+    ap (tree.call_after (script_of script) (tree_replay replay) (max replay.reached at) call text) (same-plan script.chans chan call) ∙ call-after script replay (max replay.reached at) call text (plain.plan script.chans chan call)
+same-after script replay (Cancel at call) few = event-line replay (max replay.reached at) call event.Cancel few
+same-after script replay (Reply at call node attempt code text) few = event-line replay (max replay.reached at) call (event.Reply node attempt code text) few
+same-after script replay (Lose at call node attempt code) few = event-line replay (max replay.reached at) call (event.Lost node attempt code) few
+same-after script replay (Tick at) few = refl
+same-after script replay (Join call) few = join-line replay call few
+
+new-told : (v : Bool) (call : ℕ) → tree.new_tells v call ≡ plain_told.new_tells v call
+new-told true call = refl
+new-told false call = refl
+
+call-told : (v : Bool) (call : ℕ) (o : Option plain.Plan) → tree.call_tells v call (option_map tree_plan o) ≡ plain_told.call_tells v call o
+call-told v call None = refl
+call-told v call (Some p) = new-told v call
+
+same-tells : (script : PlainScript) (replay : plain_told.Replay) (act : Act) → AreSparse replay → tree.tells (script_of script) (tree_replay replay) act ≡ plain_told.tells script replay act
+unfolding tree.tells plain_told.tells
+same-tells script replay (Call at call chan text) few =
+    ap (λ v. tree.call_tells v call (plan (map chan_of script.chans) chan call)) (same-full script replay) ∙ ap (tree.call_tells (plain_told.is_full script replay) call) (same-plan script.chans chan call)
+    ∙ call-told (plain_told.is_full script replay) call (plain.plan script.chans chan call)
+same-tells script replay (Cancel at call) few = refl
+same-tells script replay (Reply at call node attempt code text) few = refl
+same-tells script replay (Lose at call node attempt code) few = refl
+same-tells script replay (Tick at) few = refl
+same-tells script replay (Join call) few = ap (tree.join_tells replay.reached) (find-same call replay.calls) ∙ same-told replay.reached (find (plain_told.is_call call) replay.calls) (sparse-found call replay.calls few)
+
+-- ---- all lines
+
+lines-same : (script : PlainScript) (replay : plain_told.Replay) (acts : List Act) → AreSparse replay → plain_told.told_from script replay acts ≡ tree.told_from (script_of script) (tree_replay replay) acts
+lines-same script replay [] few = refl
+lines-same script replay (act ∷ acts) few =
+    let next = plain_told.after script replay act in
+    ap (λ ts. ts ++ plain_told.told_from script next acts) (sym (same-tells script replay act few)) ∙ ap (λ ts. tree.tells (script_of script) (tree_replay replay) act ++ ts) (lines-same script next acts (after-sparse script replay act few))
+    ∙ ap (λ r. tree.tells (script_of script) (tree_replay replay) act ++ tree.told_from (script_of script) r acts) (sym (same-after script replay act few))
+
+pub plain-same : PlainScriptsTellTheSame
+unfolding tree.told plain_told.told
+plain-same script = lines-same script plain_told.unbegun script.acts tt
