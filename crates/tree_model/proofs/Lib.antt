@@ -1,4 +1,5 @@
 mod Rows
+mod SingleCalls
 mod Digits
 mod Few
 mod Leaves
