@@ -85,7 +85,7 @@ weave-step n k moment b (Some (mark, others)) e again hn hk =
     ∙ sym (weave-meets k moment b mark others e)
 
 -- Where it lasts for all waiting marks, more changes nothing.
-weave-fuel : (n k moment : ℕ) (b : Begun) → marks_left b ≤ n → marks_left b ≤ k → weave_at_most n moment b ≡ weave_at_most k moment b
+pub weave-fuel : (n k moment : ℕ) (b : Begun) → marks_left b ≤ n → marks_left b ≤ k → weave_at_most n moment b ≡ weave_at_most k moment b
 weave-fuel zero k moment b hn hk = sym (weave-idle k moment b (none-left b hn))
 weave-fuel (suc n) zero moment b hn hk = weave-idle (suc n) moment b (none-left b hk)
 weave-fuel (suc n) (suc k) moment b hn hk = weave-step n k moment b (least_mark b.waiting) refl (λ d hd hd'. weave-fuel n k moment d hd hd') hn hk
@@ -175,7 +175,7 @@ finish-step n k r b false (Some (mark, others)) p e again hn hk =
     let left = taken-left b mark others e in
     finish-meets n r b mark others p e ∙ again (max r mark.moment) (take_mark b mark others) (omega (arith, left, hn)) (omega (arith, left, hk)) ∙ sym (finish-meets k r b mark others p e)
 
-finish-fuel : (n k r : ℕ) (b : Begun) → marks_left b ≤ n → marks_left b ≤ k → finish_at_most n r b ≡ finish_at_most k r b
+pub finish-fuel : (n k r : ℕ) (b : Begun) → marks_left b ≤ n → marks_left b ≤ k → finish_at_most n r b ≡ finish_at_most k r b
 finish-fuel zero k r b hn hk = sym (finish-idle k r b (none-left b hn))
 finish-fuel (suc n) zero r b hn hk = finish-idle (suc n) r b (none-left b hk)
 finish-fuel (suc n) (suc k) r b hn hk = finish-step n k r b (is_some (end_of b.state)) (least_mark b.waiting) refl refl (λ s d hd hd'. finish-fuel n k s d hd hd') hn hk

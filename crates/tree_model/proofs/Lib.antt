@@ -1,4 +1,5 @@
 mod Rows
+mod SingleCalls
 mod Digits
 mod Few
 mod Leaves
@@ -20,3 +21,4 @@ mod Logs
 mod Heard
 mod MomentsStay
 mod Runs
+mod Plain

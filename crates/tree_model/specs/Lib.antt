@@ -16,6 +16,7 @@ pub mod Leaves
 pub mod Heard
 pub mod Fits
 pub mod Moments
+pub mod Plain
 pub mod Laws
 pub mod Sends
 pub mod Requests

@@ -9,6 +9,12 @@ ghost use Rattle.tree_model.specs.Heard.{TextsNeedAReply, ToldAttemptsAreFew, To
 ghost use Rattle.tree_model.specs.Laws.{EndsStay, NodesStay, LeavesIssueFew, NodesAreOfThePlan, TriesAreFew, SendsAreOfTheState, SendsAreAttempts, NothingIsSentTwice, OffsetsAndMeaningsAreInverse, WeavesJoin};
 ghost use Rattle.tree_model.specs.Logs.{EndsAreTheMachines};
 ghost use Rattle.tree_model.specs.Moments.{MomentsAreEarly};
+ghost use Rattle.tree_model.specs.Plain.{PlainScriptsTellTheSame};
+
+/// A script over plain channels tells what the machine of all channels tells of it.
+pub fn plain_scripts_tell_the_same()
+    ensures { PlainScriptsTellTheSame }
+{}
 
 /// Each end that is told is the one that the machine gives for that call's own events: those of the lines that name it, in
 /// their order, woven with its own marks.
