@@ -13,9 +13,8 @@ use Rattle.rpc_model.specs.declared.script.Act.TheVariants.{Call, Cancel, Reply,
 use Rattle.rpc_model.specs.declared.told.Told.{Told}
 use Rattle.rpc_model.specs.declared.told.Told.TheVariants.{Ended}
 use Rattle.rpc_model.specs.Plan.{Plan, leaf_plan, plan}
-use Rattle.rpc_model.specs.Leaf.{Leaf, leaf_step}
-use Rattle.rpc_model.specs.Machine.{State, leaf_state, Mark, MarkKind, deadline, backup, mark_after, end_of, attempts, is_at, leaf_run, quiet, step_at, step}
-use Rattle.rpc_model.specs.Marks.{Begun, begin, apply, least_mark, lesser, is_before, take_mark, mark_event, weave_at_most, weave_least, most_marks, weave, finish_at_most, finish_least, finish}
+use Rattle.rpc_model.specs.Machine.{Mark, MarkKind, deadline, backup, mark_after, end_of, attempts}
+use Rattle.rpc_model.specs.Marks.{Begun, begin, apply, least_mark, take_mark, weave_at_most, weave_least, most_marks, weave, finish_at_most, finish_least, finish}
 use Rattle.rpc_model.specs.Told.{Standing, begun, full, told_of, Replay, number_of, is_call, is_begun, is_full, change_first, stand_new, call_after, event_after, call_event, stand_joined, joined, joined_moment, join_end, join_tells, call_join, call_tells, after, tells, told_from}
 use Rattle.rpc_model.specs.Early.{settle, settled, IsSparse, AreSparse}
 use Rattle.rpc_model.proofs.MomentsStay.{step-sets}

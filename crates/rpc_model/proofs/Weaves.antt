@@ -1,23 +1,13 @@
 -- A weave to one moment and then to a later one, and a finish behind a weave.
-use Rattle.std.proofs.Common.{◌≡◌, ℕ, zero, suc, ◌+◌, ◌≤◌, max, Bool, true, false, cond, ◌==◌, nat_le, List, [], ◌∷◌, ◌++◌, length, map, find, count_by, Option, Some, None, is_some, arith, refl, ap, sym, ◌∙◌, subst, length-append}
-use Rattle.std.proofs.lemmas.List.{append-nil, map-append}
-use Rattle.std.proofs.lemmas.List.Sums.{sum_by-cons}
-use Rattle.std.specs.List.{AllByRecursion}
-use Rattle.std.specs.Option.{option_map}
+use Rattle.std.proofs.Common.{◌≡◌, ℕ, zero, suc, ◌≤◌, max, Bool, true, false, cond, nat_le, List, [], ◌∷◌, ◌++◌, length, Option, Some, None, is_some, arith, refl, ap, sym, ◌∙◌, subst}
+use Rattle.std.proofs.lemmas.List.{append-nil}
 use Rattle.rpc_model.specs.declared.event.End.{End}
 use Rattle.rpc_model.specs.declared.event.Event.{Event}
 use Rattle.rpc_model.specs.declared.event.Event.TheVariants as event
-use Rattle.rpc_model.specs.declared.script.Script.{Script}
-use Rattle.rpc_model.specs.declared.script.Act.{Act}
-use Rattle.rpc_model.specs.declared.script.Act.TheVariants.{Call, Cancel, Reply, Lose, Tick, Join}
-use Rattle.rpc_model.specs.declared.told.Told.{Told}
-use Rattle.rpc_model.specs.declared.told.Told.TheVariants.{Ended}
-use Rattle.rpc_model.specs.Plan.{Plan, leaf_plan, plan}
+use Rattle.rpc_model.specs.Plan.{Plan, leaf_plan}
 use Rattle.rpc_model.specs.Leaf.{Leaf, leaf_step}
-use Rattle.rpc_model.specs.Machine.{State, leaf_state, Mark, MarkKind, deadline, backup, mark_after, end_of, attempts, is_at, leaf_run, quiet, step_at, step}
-use Rattle.rpc_model.specs.Marks.{Begun, begin, apply, least_mark, lesser, is_before, take_mark, mark_event, weave_at_most, weave_least, most_marks, weave, finish_at_most, finish_least, finish}
-use Rattle.rpc_model.specs.Told.{Standing, begun, full, told_of, Replay, number_of, is_call, is_begun, is_full, change_first, stand_new, call_after, event_after, call_event, stand_joined, joined, joined_moment, join_end, join_tells, call_join, call_tells, after, tells, told_from}
-use Rattle.rpc_model.specs.Early.{settle, settled, IsSparse, AreSparse}
+use Rattle.rpc_model.specs.Machine.{State, leaf_state, Mark, end_of, is_at, leaf_run, quiet, step_at, step}
+use Rattle.rpc_model.specs.Marks.{Begun, least_mark, lesser, is_before, take_mark, mark_event, weave_at_most, weave_least, finish_at_most, finish_least}
 use Rattle.rpc_model.proofs.MomentsStay.{step-sets}
 use Rattle.rpc_model.proofs.Once.{weave-call}
 
