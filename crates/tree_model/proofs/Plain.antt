@@ -62,9 +62,9 @@ same-begin call (plain.leaf_plan leaf) request m = refl
 -- a plain call after its leaf took a step or didn't, and the same call on any channel
 at-leaf : (call : ℕ) (leaf : LeafChan) (request : List ℕ) (l : Leaf) (waiting : List Mark) (e : Event) (v : Bool)
     → (let run = cond v (leaf_run {M = MapKind} {G = MergeKind} leaf call 0 request l (leaf_step leaf.retry l e)) (quiet (leaf_state leaf request l)) in
-      record { call = call; plan = leaf_plan leaf; state = run.state; waiting = set_all run.marks (sorted waiting) })
+    record { call = call; plan = leaf_plan leaf; state = run.state; waiting = set_all run.marks (sorted waiting) })
     ≡ (let run = cond v (plain_machine.leaf_run leaf call 0 request l (leaf_step leaf.retry l e)) (plain_machine.quiet (plain_machine.leaf_state l)) in
-      tree_call (record { call = call; plan = plain.leaf_plan leaf; request = request; state = run.state; waiting = waiting ++ run.marks }))
+    tree_call (record { call = call; plan = plain.leaf_plan leaf; request = request; state = run.state; waiting = waiting ++ run.marks }))
 at-leaf call leaf request l waiting e true = ap (λ w. record { call = call; plan = leaf_plan leaf; state = leaf_state leaf request (leaf_step leaf.retry l e); waiting = sorted w }) (sym (append-nil waiting))
 at-leaf call leaf request l waiting e false = ap (λ w. record { call = call; plan = leaf_plan leaf; state = leaf_state leaf request l; waiting = sorted w }) (sym (append-nil waiting))
 
@@ -300,7 +300,7 @@ call-after script replay m call text None = refl
 call-after script replay m call text (Some p) =
     ap (λ ss. record { reached = m; calls = ss })
     (ap (λ v. map tree_standing replay.calls ++ tree.stand_new v call (tree_plan p) text m ∷ []) (same-full script replay)
-      ∙ ap (λ s. map tree_standing replay.calls ++ s ∷ []) (stand-new (plain_told.is_full script replay) call p text m) ∙ sym (map-append tree_standing replay.calls (plain_told.stand_new (plain_told.is_full script replay) call p text m ∷ [])))
+    ∙ ap (λ s. map tree_standing replay.calls ++ s ∷ []) (stand-new (plain_told.is_full script replay) call p text m) ∙ sym (map-append tree_standing replay.calls (plain_told.stand_new (plain_told.is_full script replay) call p text m ∷ [])))
 
 event-line : (replay : plain_told.Replay) (m call : ℕ) (e : Event) → AreSparse replay → tree.call_event (tree_replay replay) m call e ≡ tree_replay (plain_told.call_event replay m call e)
 event-line replay m call e few = ap (λ ss. record { reached = m; calls = ss }) (change-same call (plain_told.event_after e m) (tree.event_after e m) replay.calls few (λ s fits. same-event e m s fits))
