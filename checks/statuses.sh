@@ -1,5 +1,5 @@
 #!/usr/bin/env bash
-# The built program's statuses over real files: words, a folder in the place of a script, a full device, a long script.
+# The built program's statuses over real files and pipes: words, faults of input and output, want of memory, long scripts.
 set -u
 cd "$(dirname "$0")/.." || exit 1
 
@@ -17,8 +17,46 @@ expect() {
 expect "$?" 2 'another word'
 "$program" </dev/null >/dev/null
 expect "$?" 2 'no word'
+"$program" sim x </dev/null >/dev/null
+expect "$?" 2 'a word more'
+"$program" $'\xff' </dev/null >/dev/null
+expect "$?" 2 'a word that is not text'
 "$program" sim <. >/dev/null
 expect "$?" 3 'a folder as the script'
+"$program" sim <&- >/dev/null
+expect "$?" 3 'a closed input'
+
+# 20,000 calls that reach their deadlines: 340 KiB of output.
+room=$(mktemp -d)
+trap 'rm -rf "$room"' EXIT
+long() {
+    echo 'leaf x a retry=0 backup=-1 timeout=5'
+    seq 20000 | sed 's/.*/at & call & x hi\njoin &/'
+}
+long >"$room/script"
+seq 20000 | sed 's/$/ fail 1008 1/' >"$room/wanted"
+"$program" sim <"$room/script" >"$room/out"
+expect "$?" 0 'a long script'
+cmp -s "$room/out" "$room/wanted"
+expect "$?" 0 'the output of a long script'
+"$program" sim <"$room/script" | head -c 1 >/dev/null
+expect "${PIPESTATUS[0]}" 4 'a pipe that is closed early'
+"$program" sim <"$room/script" >&-
+expect "$?" 4 'a closed output'
+(
+    trap '' XFSZ
+    ulimit -f 1
+    "$program" sim <"$room/script" >"$room/part"
+)
+expect "$?" 4 'a limit on the size of files'
+cmp -s "$room/part" <(head -c "$(wc -c <"$room/part")" "$room/wanted") && [ -s "$room/part" ]
+expect "$?" 0 'the front of the output at a limit on the size of files'
+(
+    ulimit -v 8000
+    "$program" sim <"$room/script" >"$room/none"
+)
+expect "$?" 9 'a limit on memory'
+expect "$(wc -c <"$room/none")" 0 'the output at a limit on memory'
 if [ -c /dev/full ]; then
     "$program" sim <examples/reply.script >/dev/full
     expect "$?" 4 'a full device'

@@ -13,10 +13,3 @@ Appends-more (Some a) (Some b) (Some c) xs ys p q = q ∙ ap (λ (l : List ℕ).
 -- A front was written, and then a front of the rest.
 pub Appends-take : (a b c : Option (List ℕ)) (bytes : List ℕ) (m n : ℕ) → Appends a b (take m bytes) → Appends b c (take n (drop m bytes)) → Appends a c (take (m + n) bytes)
 Appends-take a b c bytes m n p q = rw take-add (Appends-more a b c (take m bytes) (take n (drop m bytes)) p q)
-
--- Two reads are one of both pieces.
-pub Consumes-more : (a b c : Option (List ℕ)) (xs ys : List ℕ) → Consumes a b xs → Consumes b c ys → Consumes a c (xs ++ ys)
-Consumes-more None b c xs ys p q = tt
-Consumes-more (Some a) None c xs ys p q = absurd p
-Consumes-more (Some a) (Some b) None xs ys p q = absurd q
-Consumes-more (Some a) (Some b) (Some c) xs ys p q = p ∙ ap (λ (l : List ℕ). xs ++ l) q ∙ sym (append_assoc xs ys c)

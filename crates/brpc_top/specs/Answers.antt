@@ -1,10 +1,13 @@
 -- What each status of the top call says of the bytes that were read and written. This project's own choice.
-use Rattle.std.specs.Prelude.{◌≡◌, ℕ, ◌≤◌, ◌⊎◌, List, ◌∷◌, [], ◌++◌, length, take, codes, Option, None, Some, Result, Ok, Err}
+use Rattle.std.specs.Prelude.{◌≡◌, ◌≢◌, ℕ, ◌+◌, ◌≤◌, ◌⊎◌, ◌↔◌, List, ◌∷◌, [], ◌++◌, length, take, codes, Option, None, Some, Result, Ok, Err}
 use Rattle.std.specs.Io.KnownBytes.{Appends, Consumes, IsAtEnd}
 use Rattle.rpc_base.specs.Causes.{Rose}
 use Rattle.rpc_model.specs.declared.script.Mode.TheVariants.{Sim}
 use Rattle.rpc_model.specs.declared.script.Script.{Script}
 use Rattle.rpc_model.specs.declared.script.Cause.{Cause}
+use Rattle.rpc_model.specs.declared.limits.TheConstants.{SCRIPT_LIMIT}
+use Rattle.brpc_top.specs.declared.input.ReadStop.{ReadStop}
+use Rattle.brpc_top.specs.declared.input.ReadStop.TheVariants.{Fault}
 use Rattle.brpc_top.specs.declared.status.Status.{Status}
 use Rattle.brpc_top.specs.declared.status.Status.TheVariants.{Done, BadWords, ReadFault, WriteFault, Refused, NoMemory}
 use Rattle.rpc_model.specs.Script.{script}
@@ -14,8 +17,13 @@ use Rattle.rpc_model.specs.Text.{told_text, refused_text}
 -- These bytes were read: all that the source had, or one byte past the limit of a script.
 pub record IsRead (left rest : Option (List ℕ)) (bytes : List ℕ) : Type 0 where
   pub consumed : Consumes left rest bytes
-  pub to_the_end : length bytes ≤ 16777216 → IsAtEnd rest
-  pub no_further : length bytes ≤ 16777217
+  pub to_the_end : length bytes ≤ SCRIPT_LIMIT → IsAtEnd rest
+  pub no_further : length bytes ≤ SCRIPT_LIMIT + 1
+
+-- The source's count of faults rose where reading stopped for a fault of it, and is as before where it didn't.
+pub record HasReadCause {X : Type 0} (before now : ℕ) (result : Result X ReadStop) : Type 0 where
+  pub fault : result ≡ Err Fault → Rose before now
+  pub kept : result ≢ Err Fault → now ≡ before
 
 -- One read gave n bytes, which stand behind those that were read before; none is the end.
 pub record ReadsMore (left rest : Option (List ℕ)) (before after : List ℕ) (n : ℕ) : Type 0 where
@@ -67,19 +75,40 @@ abbrev pub IsRefused : Option (List ℕ) → Type 0
 IsRefused None = ⊥
 IsRefused (Some bytes) = (fault : ℕ × Cause) × (script Sim bytes ≡ Err fault)
 
--- On a script that the grammar accepts the status is 0 or 9 where no count of faults rose.
-abbrev pub IsComplete : (left : Option (List ℕ)) (source_before source_now sink_before sink_now status : ℕ) → Type 0
-IsComplete left source_before source_now sink_before sink_now status =
-    IsAccepted left → (Rose source_before source_now → ⊥) → (Rose sink_before sink_now → ⊥) → (status ≡ 0) ⊎ (status ≡ 9)
+-- What a replay of a script from a source to a sink owes, by its status.
+pub record IsReplay {K : Type 0} (left rest : Option (List ℕ)) (reads_before reads_now : ℕ) (held written : Option (List ℕ))
+    (writes_before writes_now : ℕ) (sink_before sink_now : K) (status : ℕ) : Type 0 where
+  pub known : IsReplayStatus status
+  -- the headline: what is written is what the plain machine tells of the script that was read
+  pub tells_all : status ≡ 0 → TellsAll left rest held written
+  -- the script grammar names the bad line and its cause, and nothing else is written
+  pub refuses : status ≡ 5 → Refuses left rest held written
+  -- a fault comes only from the outside, and each fault of the outside is told
+  pub read_fault : status ≡ 3 → Rose reads_before reads_now
+  pub no_read_fault : status ≢ 3 → reads_now ≡ reads_before
+  pub nothing_written : status ≡ 3 → sink_now ≡ sink_before
+  pub write_fault : status ≡ 4 → Rose writes_before writes_now
+  pub no_write_fault : status ≢ 4 → writes_now ≡ writes_before
+  pub part_written : status ≡ 4 → BreaksOff left rest held written
+  -- want of memory comes before anything is written
+  pub memory : status ≡ 9 → sink_now ≡ sink_before
 
--- On a script that the grammar refuses the status is 5 or 9 where no count of faults rose.
-abbrev pub RefusesAll : (left : Option (List ℕ)) (source_before source_now sink_before sink_now status : ℕ) → Type 0
-RefusesAll left source_before source_now sink_before sink_now status =
-    IsRefused left → (Rose source_before source_now → ⊥) → (Rose sink_before sink_now → ⊥) → (status ≡ 5) ⊎ (status ≡ 9)
+-- Without a fault of the outside the script decides the status, unless memory runs out.
+pub record IsDecided (left : Option (List ℕ)) (status : ℕ) : Type 0 where
+  pub complete : IsAccepted left → status ≢ 3 → status ≢ 4 → (status ≡ 0) ⊎ (status ≡ 9)
+  pub refuses_all : IsRefused left → status ≢ 3 → status ≢ 4 → (status ≡ 5) ⊎ (status ≡ 9)
 
 -- the one list of words that is accepted
 abbrev pub sim : List (List ℕ)
 sim = codes "sim" ∷ []
+
+-- What the command that the words name owes, by its status.
+pub record IsRun {S K : Type 0} (words : List (List ℕ)) (source_before source_now : S) (sink_before sink_now : K) (replays decides : ℕ → Type 0) (status : ℕ) : Type 0 where
+  -- status 2 comes exactly where the words aren't accepted; nothing is read or written then
+  pub bad_words : (status ≡ 2) ↔ (words ≢ sim)
+  pub nothing_done : status ≡ 2 → (source_now ≡ source_before) × (sink_now ≡ sink_before)
+  pub sim_replays : words ≡ sim → replays status
+  pub sim_decided : words ≡ sim → decides status
 
 -- the number that the program ends with
 abbrev pub number_of : Status → ℕ

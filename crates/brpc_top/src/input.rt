@@ -1,10 +1,9 @@
-ghost use Rattle.std.specs.Prelude.{◌≡◌, ◌<◌, ◌≤◌, Err, IfOk, length, vec_len};
-ghost use Rattle.rpc_base.specs.Causes.{Rose};
-ghost use Rattle.brpc_top.specs.Answers.{IsRead, ReadsMore};
+ghost use Rattle.std.specs.Prelude.{◌≡◌, ◌<◌, ◌≤◌, IfOk, length, vec_len};
+ghost use Rattle.brpc_top.specs.Answers.{HasReadCause, IsRead, ReadsMore};
 ghost use Rattle.brpc_top.specs.declared.input.ReadStop.TheVariants as stop;
 
-use call_script::SCRIPT_LIMIT;
 use rpc_base::{Failed, Source};
+use rpc_model::SCRIPT_LIMIT;
 use std::alloc::{AllocError, Global};
 
 /// How many bytes one read asks for.
@@ -39,8 +38,7 @@ pub(crate) fn read_script_bytes<S: Source>(
     source: &mut S,
 ) -> Result<Vec<u8>, ReadStop>
     ensures read { IfOk result (λ bytes. IsRead (S.left source.old) (S.left source.new) bytes.items) }
-    ensures later { S.faults source.old ≤ S.faults source.new }
-    ensures fault { result ≡ Err ReadStop.Fault → Rose (S.faults source.old) (S.faults source.new) }
+    ensures cause { HasReadCause (S.faults source.old) (S.faults source.new) result }
 {
     let mut bytes = Vec::new(alloc);
     let mut piece = zeros(alloc, PIECE)?;
@@ -62,8 +60,7 @@ fn read_more<S: Source>(
     requires { 0 < length piece.old }
     ensures read { IfOk result (ReadsMore (S.left source.old) (S.left source.new) bytes.old.items bytes.new.items) }
     ensures bound { IfOk result (λ count. count ≤ length piece.old) }
-    ensures later { S.faults source.old ≤ S.faults source.new }
-    ensures fault { result ≡ Err ReadStop.Fault → Rose (S.faults source.old) (S.faults source.new) }
+    ensures cause { HasReadCause (S.faults source.old) (S.faults source.new) result }
 {
     let count = source.read(piece)?;
     bytes.extend_from_slice(&piece[..count])?;

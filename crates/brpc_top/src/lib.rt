@@ -6,6 +6,7 @@ mod output;
 mod status;
 mod top;
 
+pub use status::Status;
 pub use top::{run, run_sim};
 
 #[cfg(test)]

@@ -1,9 +1,9 @@
 ghost use Rattle.std.specs.Prelude.{◌≡◌};
 ghost use Rattle.brpc_top.specs.Answers.{number_of};
 
-/// What the program ends with.
+/// What the program ends with. The numbers are this project's own choice.
 #[derive(Clone, Copy, Debug, PartialEq, Eq)]
-pub(crate) enum Status {
+pub enum Status {
     /// The script was read to its end and all was written.
     Done = 0,
     /// The words are none that are accepted.
@@ -19,7 +19,8 @@ pub(crate) enum Status {
 }
 
 impl Status {
-    pub(crate) fn number(self) -> u8
+    /// The status that the program ends with.
+    pub fn number(self) -> u8
         ensures { result ≡ number_of self }
     {
         self as u8

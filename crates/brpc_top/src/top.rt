@@ -1,12 +1,8 @@
-ghost use Rattle.std.specs.Prelude.{◌≡◌, ◌≢◌, ℕ, ◌⊎◌, ◌↔◌, List, map, string_bytes, IsTrue, IfOk};
-ghost use Rattle.std.specs.Io.KnownBytes.{Keeps};
-ghost use Rattle.rpc_base.specs.Causes.{Rose};
+ghost use Rattle.std.specs.Prelude.{◌≡◌, ◌↔◌, map, string_bytes, IsTrue, IfOk};
 ghost use Rattle.rpc_model.specs.declared.script.Mode.TheVariants as mode;
-ghost use Rattle.rpc_model.specs.declared.script.Script.{Script};
-ghost use Rattle.rpc_model.specs.declared.script.Cause.{Cause};
 ghost use Rattle.rpc_model.specs.Script.{script};
-ghost use Rattle.brpc_top.specs.Answers.{TellsAll, Refuses, BreaksOff, IsReplayStatus, IsComplete, RefusesAll, output, status_of, number_of, sim};
 ghost use Rattle.rpc_model.specs.Text.{told_text};
+ghost use Rattle.brpc_top.specs.Answers.{IsReplay, IsDecided, IsRun, output, status_of, number_of, sim};
 
 use crate::input::{ReadStop, read_script_bytes};
 use crate::output::write_all;
@@ -22,30 +18,7 @@ use std::alloc::Global;
 /// The list `sim` alone is accepted: it replays the script of the source, and what the joins tell goes to the sink. This
 /// is this project's own choice. The statuses are 2, the words aren't accepted, and those of `run_sim`.
 pub fn run<S: Source, K: Sink>(alloc: Global, words: &[String], source: &mut S, sink: &mut K) -> u8
-    ensures known { (result ≡ 2) ⊎ IsReplayStatus result }
-
-    // Status 2 comes exactly where the words aren't the list `sim`; nothing is read or written then.
-    ensures bad_words { (result ≡ 2) ↔ (map (λ w. string_bytes w) words.now ≢ sim) }
-    ensures nothing_done { result ≡ 2 → (source.new ≡ source.old) × (sink.new ≡ sink.old) }
-
-    // The headline: what is written is what the plain machine tells of the script that was read.
-    ensures tells_all { result ≡ 0 → TellsAll (S.left source.old) (S.left source.new) (K.held sink.old) (K.held sink.new) }
-
-    // The script grammar names the bad line and its cause, and nothing else is written.
-    ensures refuses { result ≡ 5 → Refuses (S.left source.old) (S.left source.new) (K.held sink.old) (K.held sink.new) }
-
-    // A fault comes only from the outside.
-    ensures read_fault { result ≡ 3 → Rose (S.faults source.old) (S.faults source.new) }
-    ensures nothing_written { result ≡ 3 → sink.new ≡ sink.old }
-    ensures write_fault { result ≡ 4 → Rose (K.faults sink.old) (K.faults sink.new) }
-    ensures part_written { result ≡ 4 → BreaksOff (S.left source.old) (S.left source.new) (K.held sink.old) (K.held sink.new) }
-
-    // Want of memory comes before anything is written.
-    ensures memory { result ≡ 9 → sink.new ≡ sink.old }
-
-    // Without a fault an accepted script is told, and a refused one is refused, unless memory runs out.
-    ensures complete { map (λ w. string_bytes w) words.now ≡ sim → IsComplete (S.left source.old) (S.faults source.old) (S.faults source.new) (K.faults sink.old) (K.faults sink.new) result }
-    ensures refuses_all { map (λ w. string_bytes w) words.now ≡ sim → RefusesAll (S.left source.old) (S.faults source.old) (S.faults source.new) (K.faults sink.old) (K.faults sink.new) result }
+    ensures { IsRun (map (λ w. string_bytes w) words.now) source.old source.new sink.old sink.new (IsReplay (S.left source.old) (S.left source.new) (S.faults source.old) (S.faults source.new) (K.held sink.old) (K.held sink.new) (K.faults sink.old) (K.faults sink.new) sink.old sink.new) (IsDecided (S.left source.old)) result }
 {
     if !is_sim(words) {
         return Status::BadWords.number();
@@ -67,40 +40,15 @@ fn is_sim(words: &[String]) -> bool
 /// Statuses: 0, done; 3, the source failed; 4, the sink failed; 5, the script has a bad line, which is named; 9, memory
 /// ran out.
 pub fn run_sim<S: Source, K: Sink>(alloc: Global, source: &mut S, sink: &mut K) -> u8
-    ensures known { IsReplayStatus result }
-
-    // The headline: what is written is what the plain machine tells of the script that was read.
-    ensures tells_all { result ≡ 0 → TellsAll (S.left source.old) (S.left source.new) (K.held sink.old) (K.held sink.new) }
-
-    // The script grammar names the bad line and its cause, and nothing else is written.
-    ensures refuses { result ≡ 5 → Refuses (S.left source.old) (S.left source.new) (K.held sink.old) (K.held sink.new) }
-
-    // A fault comes only from the outside.
-    ensures read_fault { result ≡ 3 → Rose (S.faults source.old) (S.faults source.new) }
-    ensures nothing_written { result ≡ 3 → sink.new ≡ sink.old }
-    ensures write_fault { result ≡ 4 → Rose (K.faults sink.old) (K.faults sink.new) }
-    ensures part_written { result ≡ 4 → BreaksOff (S.left source.old) (S.left source.new) (K.held sink.old) (K.held sink.new) }
-
-    // Want of memory comes before anything is written.
-    ensures memory { result ≡ 9 → sink.new ≡ sink.old }
-
-    // Without a fault an accepted script is told, and a refused one is refused, unless memory runs out.
-    ensures complete { IsComplete (S.left source.old) (S.faults source.old) (S.faults source.new) (K.faults sink.old) (K.faults sink.new) result }
-    ensures refuses_all { RefusesAll (S.left source.old) (S.faults source.old) (S.faults source.new) (K.faults sink.old) (K.faults sink.new) result }
+    ensures replay { IsReplay (S.left source.old) (S.left source.new) (S.faults source.old) (S.faults source.new) (K.held sink.old) (K.held sink.new) (K.faults sink.old) (K.faults sink.new) sink.old sink.new result }
+    ensures decided { IsDecided (S.left source.old) result }
 {
     replay_source(alloc, source, sink).number()
 }
 
 /// Reads the script, replays it and writes what its joins tell, or its refusal.
 fn replay_source<S: Source, K: Sink>(alloc: Global, source: &mut S, sink: &mut K) -> Status
-    ensures known { IsReplayStatus (number_of result) }
-    ensures tells_all { result ≡ Status.Done → TellsAll (S.left source.old) (S.left source.new) (K.held sink.old) (K.held sink.new) }
-    ensures refuses { result ≡ Status.Refused → Refuses (S.left source.old) (S.left source.new) (K.held sink.old) (K.held sink.new) }
-    ensures read_fault { result ≡ Status.ReadFault → Rose (S.faults source.old) (S.faults source.new) }
-    ensures nothing_written { result ≡ Status.ReadFault → sink.new ≡ sink.old }
-    ensures write_fault { result ≡ Status.WriteFault → Rose (K.faults sink.old) (K.faults sink.new) }
-    ensures part_written { result ≡ Status.WriteFault → BreaksOff (S.left source.old) (S.left source.new) (K.held sink.old) (K.held sink.new) }
-    ensures memory { result ≡ Status.NoMemory → sink.new ≡ sink.old }
+    ensures { IsReplay (S.left source.old) (S.left source.new) (S.faults source.old) (S.faults source.new) (K.held sink.old) (K.held sink.new) (K.faults sink.old) (K.faults sink.new) sink.old sink.new (number_of result) }
 {
     let bytes = match read_script_bytes(alloc, source) {
         Ok(bytes) => bytes,

@@ -10,7 +10,8 @@ use std::marker::Model;
 #[derive(Debug, Drop)]
 pub struct Leaf {
     retry: u32,
-    issued: u32,
+    /// The attempt that was issued last.
+    last: u32,
     current: u32,
     older: Option<u32>,
     backed_up: bool,
@@ -24,27 +25,26 @@ enum Outcome {
 }
 
 impl Model for Leaf {
-    ghost use Rattle.std.specs.Prelude.{◌≤◌, ◌+◌, ◌^◌, ◌<◌};
+    ghost use Rattle.std.specs.Prelude.{◌≤◌, ◌+◌};
     ghost use Rattle.call_leaf.specs.Keeps.{Kept};
 
     ghost Value = { Kept };
 
     ghost use Rattle.call_leaf.specs.Outcomes.{outcome_of};
 
-    ghost view = { λ l. record { retry = l.retry; issued = l.issued; current = l.current; older = l.older; backed_up = l.backed_up; outcome = outcome_of l.outcome } };
+    ghost view = { λ l. record { retry = l.retry; issued = l.last + 1; current = l.current; older = l.older; backed_up = l.backed_up; outcome = outcome_of l.outcome } };
 
-    ghost invariant = { λ l. (l.retry < 2 ^ 31) × (l.issued ≤ l.retry + 1) };
+    ghost invariant = { λ l. l.last ≤ l.retry };
 }
 
 impl Leaf {
-    /// A leaf that has issued attempt 0, and may issue `retry` more, fewer than 2^31.
+    /// A leaf that has issued attempt 0, and may issue `retry` more.
     pub fn begin(retry: u32) -> Leaf
-        requires { retry < 2 ^ 31 }
         ensures { result ≡ begun retry }
     {
         Leaf {
             retry,
-            issued: 1,
+            last: 0,
             current: 0,
             older: None,
             backed_up: false,
@@ -67,11 +67,12 @@ impl Leaf {
         }
     }
 
-    /// How many attempts it has issued.
-    pub fn issued(&self) -> u32
-        ensures { result ≡ self.now.issued }
+    /// How many attempts it has issued, at most one more than `retry`.
+    pub fn issued(&self) -> u64
+        ensures value { result ≡ self.now.issued }
+        ensures bound { result ≤ self.now.retry + 1 }
     {
-        self.issued
+        u64::from(self.last) + 1
     }
 
     /// Whether the attempt may still answer: the leaf has no end, and it is the current or the older one.
@@ -108,7 +109,7 @@ impl Leaf {
             self.older = None;
             return LeafStep::Nothing;
         }
-        if self.issued <= self.retry && retriable(code) {
+        if self.last < self.retry && retriable(code) {
             return self.issue();
         }
         self.outcome = Some(Outcome::Failed(code));
@@ -121,7 +122,7 @@ impl Leaf {
         ensures step { Says self.old LeafEvent.Backup result }
         ensures end { Ends self.old.outcome result self.new.outcome }
     {
-        if self.outcome.is_some() || self.backed_up || self.issued > self.retry {
+        if self.outcome.is_some() || self.backed_up || self.last >= self.retry {
             return LeafStep::Nothing;
         }
         self.backed_up = true;
@@ -148,8 +149,8 @@ impl Leaf {
         ensures leaf { self.new ≡ record self.old { issued = self.old.issued + 1; current = self.old.issued } }
         ensures step { result ≡ LeafStep.Issue self.old.issued }
     {
-        self.current = self.issued;
-        self.issued += 1;
+        self.last += 1;
+        self.current = self.last;
         LeafStep::Issue(self.current)
     }
 }

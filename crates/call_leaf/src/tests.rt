@@ -4,7 +4,7 @@ use super::*;
 
 /// The steps of a leaf with this retry limit.
 fn expect(rt: &impl std::process::Abort, retry: u32, rows: &[(LeafEvent, LeafStep)]) {
-    let mut leaf = Leaf::begin(retry % 1000);
+    let mut leaf = Leaf::begin(retry);
     for (event, step) in rows {
         let got = leaf.apply(*event);
         assert_eq!(rt; got, *step);

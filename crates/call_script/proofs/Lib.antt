@@ -1,4 +1,5 @@
 pub mod Digits
+pub mod Directed
 pub mod Kept
 pub mod Places
 pub mod Said

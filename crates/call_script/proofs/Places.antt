@@ -13,7 +13,7 @@ use Rattle.std.proofs.lemmas.Slice.Eq.{bytes_eq-Decides}
 use Rattle.std.proofs.lemmas.List.Folds.{position_or_len_push}
 use Rattle.std.proofs.lemmas.List.Sums.{prefix_len-le-length}
 use Rattle.std.proofs.lemmas.Map.Text.{is_eq-slice_cmp}
-use Rattle.rpc_model.specs.Lines.{index_of}
+use Rattle.rpc_model.specs.Words.{index_of}
 use Rattle.rpc_model.proofs.First.{position_some, found, unfound}
 use Rattle.call_script.specs.Places.{FindsNames, FindsCalls}
 

@@ -3,7 +3,8 @@ use Rattle.std.proofs.Common.{◌≡◌, ℕ, ◌+◌, ◌<◌, ◌≤◌, false
 use Rattle.std.specs.Prelude.{nat_le}
 use Rattle.std.proofs.lemmas.Bool.Decides.{nat_tests}
 use Rattle.std.proofs.lemmas.List.{at_drop_more, at_drop_all}
-use Rattle.rpc_model.specs.Lines.{index_of, mention_at, mention, mention_all, numbers_of}
+use Rattle.rpc_model.specs.Words.{index_of}
+use Rattle.rpc_model.specs.ChannelLines.{mention_at, mention, mention_all, numbers_of}
 use Rattle.rpc_model.proofs.First.{position_some}
 
 -- A place where a name stands is in the list.

@@ -4,7 +4,7 @@ use Rattle.std.specs.Global.{Vec}
 use Rattle.std.specs.Ordering.{nat_cmp}
 use Rattle.std.specs.Cmp.Lexicographic.{slice_cmp}
 use Rattle.std.specs.BTreeMap.{BTreeMap, get, get_by}
-use Rattle.rpc_model.specs.Lines.{index_of}
+use Rattle.rpc_model.specs.Words.{index_of}
 
 -- each name is found where it stands, and no other is found
 abbrev pub FindsNames : BTreeMap (Vec ℕ) ℕ → List (List ℕ) → Type 0

@@ -25,8 +25,18 @@ impl From<AllocError> for ScriptFault {
 /// Why a line was not taken.
 #[derive(Debug, Drop)]
 pub(crate) enum LineFault {
-    Refused,
+    /// The grammar refuses it for this cause.
+    Refused(Cause),
+    /// Memory ran out.
     Memory,
+}
+
+impl From<Cause> for LineFault {
+    ghost from_gives = { λ cause e. e ≡ line_fault.Refused cause };
+
+    fn from(cause: Cause) -> LineFault {
+        LineFault::Refused(cause)
+    }
 }
 
 impl From<AllocError> for LineFault {

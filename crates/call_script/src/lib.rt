@@ -2,6 +2,7 @@
 #![tactic(auto)]
 
 mod calls;
+mod cut;
 mod fault;
 mod names;
 mod reader;
@@ -10,7 +11,8 @@ mod words;
 mod writing;
 
 pub use fault::ScriptFault;
-pub use reading::{SCRIPT_LIMIT, read_script};
+pub use reading::read_script;
+pub use rpc_model::{Act, Cause, Direction, Mode, Script, Serve, Told};
 pub use writing::{write_refusal, write_told};
 
 #[cfg(test)]

@@ -1,7 +1,7 @@
 //! Names in the order of their first mention.
 
 ghost use Rattle.std.specs.Prelude.{◌≡◌, ◌<◌, [], ◌∷◌, ◌++◌, length, Option, None, Some, Err, OnOk, OnErr, IfSome};
-ghost use Rattle.rpc_model.specs.Lines.{index_of};
+ghost use Rattle.rpc_model.specs.Words.{index_of};
 
 use crate::fault::LineFault;
 use rpc_base::Bytes;

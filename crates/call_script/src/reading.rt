@@ -1,22 +1,19 @@
 ghost use Rattle.std.specs.Prelude.{◌≡◌, ◌==◌, ◌≤◌, length, IfOk};
 ghost use Rattle.std.specs.List.{slice_split};
 ghost use Rattle.rpc_model.specs.Script.{script, lines_say};
-ghost use Rattle.rpc_model.specs.Lines.{nothing};
+ghost use Rattle.rpc_model.specs.Before.{nothing};
 ghost use Rattle.rpc_model.specs.Fits.{Fits};
-ghost use Rattle.call_script.specs.Judged.{Reads, SaysLines};
+ghost use Rattle.call_script.specs.Judged.{Reads, SaysLines, line_fault_at};
 
 use crate::fault::{LineFault, ScriptFault};
 use crate::reader::Reader;
-use rpc_model::{Cause, Mode, Script};
+use rpc_model::{Cause, Mode, SCRIPT_LIMIT, Script};
 use std::alloc::Global;
-
-/// The greatest length of a script, in bytes.
-pub const SCRIPT_LIMIT: usize = 16_777_216;
 
 /// The typed lines of a script, or its first bad line and the cause.
 ///
-/// `Bad` comes exactly where the script grammar names a bad line: line 0 for a script of more than `SCRIPT_LIMIT`
-/// bytes, else the first line, counted from 1, that isn't accepted.
+/// `Bad` comes exactly where the script grammar names a bad line, with its cause: line 0 for a script of more than
+/// `SCRIPT_LIMIT` bytes, else the first line, counted from 1, that isn't accepted.
 #[tactic(auto, unfolding(rpc_model::specs::Script::script))]
 pub fn read_script(alloc: Global, mode: Mode, bytes: &[u8]) -> Result<Script, ScriptFault>
     ensures script { Reads result (script mode bytes.now) }
@@ -39,9 +36,18 @@ fn read_lines(alloc: Global, mode: Mode, bytes: &[u8]) -> Result<Reader, ScriptF
     for line in bytes.split(|b| *b == b'\n') {
         match reader.line_says(line) {
             Ok(()) => number += 1,
-            Err(LineFault::Refused) => return Err(ScriptFault::Bad(number, Cause::NotBuilt)),
-            Err(LineFault::Memory) => return Err(ScriptFault::Memory),
+            Err(fault) => return Err(fault_at(number, fault)),
         }
     }
     Ok(reader)
+}
+
+/// The fault of a script whose line of this number has this fault.
+fn fault_at(number: u32, fault: LineFault) -> ScriptFault
+    ensures { result ≡ line_fault_at number fault }
+{
+    match fault {
+        LineFault::Refused(cause) => ScriptFault::Bad(number, cause),
+        LineFault::Memory => ScriptFault::Memory,
+    }
 }

@@ -1,10 +1,13 @@
-//! The words of a line: numbers, names, texts and options.
+//! The words of a line: numbers, names, texts and options, each with the cause for which it is refused.
 
-ghost use Rattle.std.specs.Prelude.{◌≡◌, ℕ, ◌+◌, ◌^◌, ◌<◌, ◌≤◌, Option, None, Some, MatchOption, IfSome, length, position, ◌==◌};
+ghost use Rattle.std.specs.Prelude.{◌≡◌, ℕ, ◌+◌, ◌^◌, ◌<◌, ◌≤◌, Ok, Err, MatchOption, IfSome, IfOk, length, position, ◌==◌};
 ghost use Rattle.std.specs.List.{list_all};
 ghost use Rattle.std.specs.Option.{option_map};
+ghost use Rattle.std.specs.Result.{result_map_both};
 ghost use Rattle.rpc_model.specs.Words as spec;
-ghost use Rattle.rpc_model.specs.Fits.{IsWait};
+ghost use Rattle.rpc_model.specs.Fits.{IsSpelled, IsWait};
+
+use rpc_model::{CODE_LIMIT, Cause, DELAY_LIMIT, Direction, NAME_LIMIT, TEXT_LIMIT, WAIT_LIMIT};
 
 /// Whether each byte is one of `low` to `high`.
 pub(crate) fn all_within(bytes: &[u8], low: u8, high: u8) -> bool
@@ -38,19 +41,35 @@ fn is_numeral(word: &[u8]) -> bool
     }
 }
 
-/// A number of `low` to `high`.
-#[tactic(auto, unfolding(rpc_model::specs::Words::number))]
-pub(crate) fn number(word: &[u8], low: u64, high: u64) -> Option<u64>
+/// A number of `low` to `high`, or the cause where the word isn't one.
+#[tactic(auto, unfolding(rpc_model::specs::Words::number_or))]
+fn number_or(cause: Cause, word: &[u8], low: u64, high: u64) -> Result<u64, Cause>
     requires { high < 2 ^ 60 }
-    ensures value { result ≡ spec.number low high word.now }
-    ensures bound { IfSome result (λ n. n ≤ high) }
-    ensures floor { IfSome result (λ n. low ≤ n) }
+    ensures value { result ≡ spec.number_or cause low high word.now }
+    ensures bound { IfOk result (λ n. n ≤ high) }
+    ensures floor { IfOk result (λ n. low ≤ n) }
 {
     if !is_numeral(word) {
-        return None;
+        return Err(cause);
     }
-    let number = digits(word, high)?;
-    if low <= number { Some(number) } else { None }
+    let Some(number) = digits(word, high) else {
+        return Err(cause);
+    };
+    if low <= number {
+        Ok(number)
+    } else {
+        Err(cause)
+    }
+}
+
+/// A number of `low` to `high`.
+pub(crate) fn number(word: &[u8], low: u64, high: u64) -> Result<u64, Cause>
+    requires { high < 2 ^ 60 }
+    ensures value { result ≡ spec.number low high word.now }
+    ensures bound { IfOk result (λ n. n ≤ high) }
+    ensures floor { IfOk result (λ n. low ≤ n) }
+{
+    number_or(Cause::BadNumber, word, low, high)
 }
 
 fn is_name_byte(byte: u8) -> bool
@@ -70,56 +89,61 @@ fn all_name_bytes(word: &[u8]) -> bool
 pub(crate) fn is_name(word: &[u8]) -> bool
     ensures { result ≡ spec.is_name word.now }
 {
-    1 <= word.len() && word.len() <= 32 && all_name_bytes(word)
+    1 <= word.len() && word.len() <= NAME_LIMIT && all_name_bytes(word)
 }
 
 /// The text that the word stands for: a dash alone is the empty text.
 #[tactic(auto, unfolding(rpc_model::specs::Words::text))]
-pub(crate) fn text(word: &[u8]) -> Option<&[u8]>
-    ensures value { option_map (λ t. t.now) result ≡ spec.text word.now }
-    ensures bound { IfSome result (λ t. length t.now ≤ 60000) }
+pub(crate) fn text(word: &[u8]) -> Result<&[u8], Cause>
+    ensures value { result_map_both (λ t. t.now) (λ cause. cause) result ≡ spec.text word.now }
+    ensures bound { IfOk result (λ t. length t.now ≤ 60000) }
 {
-    if word.is_empty() || word.len() > 60_000 {
-        return None;
+    if word.len() > TEXT_LIMIT {
+        return Err(Cause::TextTooLong);
     }
-    Some(if *word == *b"-".as_slice() { &[] } else { word })
+    Ok(if *word == *b"-".as_slice() { &[] } else { word })
 }
 
 /// What stands behind the key of a word `key=value`; the key is given with its `=`.
-fn value_of<'a>(word: &'a [u8], key: &[u8]) -> Option<&'a [u8]>
-    ensures { option_map (λ t. t.now) result ≡ spec.value_of key.now word.now }
+fn value_of<'a>(word: &'a [u8], key: &[u8]) -> Result<&'a [u8], Cause>
+    ensures { result_map_both (λ t. t.now) (λ cause. cause) result ≡ spec.value_of key.now word.now }
 {
-    word.strip_prefix(key)
+    match word.strip_prefix(key) {
+        Some(value) => Ok(value),
+        None => Err(Cause::BadOption),
+    }
 }
 
 /// Milliseconds, or none where the word is `-1`.
 #[tactic(auto, unfolding(rpc_model::specs::Words::wait))]
-fn wait(word: &[u8]) -> Option<Option<u32>>
+fn wait(word: &[u8]) -> Result<Option<u32>, Cause>
     ensures value { result ≡ spec.wait word.now }
-    ensures bound { IfSome result IsWait }
+    ensures bound { IfOk result IsWait }
 {
     if *word == *b"-1".as_slice() {
-        return Some(None);
+        return Ok(None);
     }
-    let millis = number(word, 1, 2_147_483_647)?;
-    Some(Some(millis as u32))
+    let millis = number(word, 1, WAIT_LIMIT)?;
+    Ok(Some(millis as u32))
 }
 
 /// The number of a word `key=number`; the key is given with its `=`.
-pub(crate) fn number_option(word: &[u8], key: &[u8], low: u64, high: u64) -> Option<u64>
+pub(crate) fn number_option(word: &[u8], key: &[u8], low: u64, high: u64) -> Result<u64, Cause>
     requires { high < 2 ^ 60 }
     ensures value { result ≡ spec.number_option key.now low high word.now }
-    ensures bound { IfSome result (λ n. n ≤ high) }
+    ensures bound { IfOk result (λ n. n ≤ high) }
 {
-    number(value_of(word, key)?, low, high)
+    let value = value_of(word, key)?;
+    number(value, low, high)
 }
 
 /// The milliseconds, or none, of a word `key=wait`; the key is given with its `=`.
-pub(crate) fn wait_option(word: &[u8], key: &[u8]) -> Option<Option<u32>>
+pub(crate) fn wait_option(word: &[u8], key: &[u8]) -> Result<Option<u32>, Cause>
     ensures value { result ≡ spec.wait_option key.now word.now }
-    ensures bound { IfSome result IsWait }
+    ensures bound { IfOk result IsWait }
 {
-    wait(value_of(word, key)?)
+    let value = value_of(word, key)?;
+    wait(value)
 }
 
 /// Where the byte stands first.
@@ -132,12 +156,43 @@ fn position_of(word: &[u8], byte: u8) -> Option<usize>
 
 /// The node and the attempt of a word `NODE#ATTEMPT`.
 #[tactic(auto, unfolding(rpc_model::specs::Words::attempt_word))]
-pub(crate) fn attempt_word(word: &[u8]) -> Option<(u32, u32)>
+pub(crate) fn attempt_word(word: &[u8]) -> Result<(u32, u32), Cause>
     ensures { result ≡ spec.attempt_word word.now }
 {
-    let at = position_of(word, b'#')?;
+    let Some(at) = position_of(word, b'#') else {
+        return Err(Cause::BadAttempt);
+    };
     let (front, rest) = word.split_at(at);
-    let node = number(front, 0, 4_294_967_295)?;
-    let attempt = number(&rest[1..], 0, 4_294_967_295)?;
-    Some((node as u32, attempt as u32))
+    let node = number_or(Cause::BadAttempt, front, 0, 4_294_967_295)?;
+    let attempt = number_or(Cause::BadAttempt, &rest[1..], 0, 4_294_967_295)?;
+    Ok((node as u32, attempt as u32))
+}
+
+/// A direction of a server.
+#[tactic(auto, unfolding(rpc_model::specs::Words::direction_word))]
+pub(crate) fn direction_word(word: &[u8]) -> Result<Direction, Cause>
+    ensures value { result ≡ spec.direction_word word.now }
+    ensures bound { IfOk result IsSpelled }
+{
+    if *word == *b"ok".as_slice() {
+        return Ok(Direction::Plain);
+    }
+    if *word == *b"drop".as_slice() {
+        return Ok(Direction::Drop);
+    }
+    if *word == *b"twice".as_slice() {
+        return Ok(Direction::Twice);
+    }
+    if *word == *b"close".as_slice() {
+        return Ok(Direction::Close);
+    }
+    if let Some(code) = word.strip_prefix(b"err=") {
+        let code = number_or(Cause::BadWord, code, 1, CODE_LIMIT)?;
+        return Ok(Direction::Err(code as u32));
+    }
+    if let Some(millis) = word.strip_prefix(b"delay=") {
+        let millis = number_or(Cause::BadWord, millis, 1, DELAY_LIMIT)?;
+        return Ok(Direction::Delay(millis));
+    }
+    Err(Cause::BadWord)
 }

@@ -8,7 +8,8 @@ use Rattle.chan_tree.specs.declared.planning.PlanFault.{PlanFault}
 use Rattle.chan_tree.specs.declared.planning.PlanFault.TheVariants.{TooDeep, MissingPart, TooWide, Memory}
 
 module _ {M G : Type 0} where
-  -- It nests deeper than eight channels; or else a part in its plan has no server, of which the first in preorder is told; or else its plan is wider than 1,024 versions. Depth and width are told as the first number past the limit.
+  -- It nests deeper than eight channels; or else a part in its plan has no server, of which the first in preorder is
+  -- told; or else its plan is wider than 1,024 versions. Depth and width are told as the first number past the limit.
   abbrev pub IsRefused : List (Chan M G) → ℕ → ℕ → PlanFault → Type 0
   IsRefused chans number call (TooDeep deep) = (8 < depth chans number) × (deep ≡ 9)
   IsRefused chans number call (MissingPart part) = (depth chans number ≤ 8) × (missing_part chans number call ≡ Some part)

@@ -30,10 +30,6 @@ pub opened_more : (T : Type 0) (n : ℕ) → opened {T = T} n ++ Vacant 1 ∷ []
 opened_more T zero = refl
 opened_more T (suc n) = ap (λ ss. Vacant 1 ∷ ss) (opened_more T n)
 
--- one number more before those that fall
-pub falling_step : (k j at n : ℕ) → k + 1 ≡ at → j ≡ n + 1 → falling k j ≡ falling at n ++ k ∷ []
-falling_step k j at n p q = let e : j ≡ suc n = omega arith in ap (λ m. falling k m) e ∙ ap (λ m. falling m n ++ k ∷ []) p
-
 -- an element of a list with one more is one of the list, or the last
 snoc_cases : (xs : List ℕ) (y i d : ℕ) → i < length (xs ++ y ∷ []) → ((i < length xs) × (get_or (xs ++ y ∷ []) i d ≡ get_or xs i d)) ⊎ ((i ≡ length xs) × (get_or (xs ++ y ∷ []) i d ≡ y))
 snoc_cases [] y zero d h = inr (refl, refl)

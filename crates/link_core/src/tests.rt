@@ -1,5 +1,6 @@
 use super::*;
 use rpc_base::{Bytes, NoMemory};
+use rpc_model::Fate;
 use std::process::Abort;
 use std::test::Fail;
 
@@ -121,6 +122,37 @@ fn requests_in_the_order_of_sending(rt: HostRuntime) -> Result<(), Fail> {
             assert_eq!(rt; second.payload.list().len(), 0);
         }
         _ => rt.abort(),
+    }
+    Ok(())
+}
+
+#[test]
+fn an_inlog_keeps_frames_and_losses_in_order(rt: HostRuntime) -> Result<(), Fail> {
+    let alloc = rt.alloc();
+    let mut log = Inlog::open(alloc);
+    assert!(rt; log.came().is_empty() && log.losses().is_empty());
+    assert_eq!(rt;
+        log.note(8, 0, Bytes::of(Vec::from_slice(alloc, b"hi")?), Fate::Stray)?,
+        0
+    );
+    for (frames, place) in [(1u64, 0u64), (2, 1), (3, 2)] {
+        assert_eq!(rt; log.note_loss(7 + place, 1009, Fate::Dropped(1))?, place);
+        assert_eq!(rt;
+            log.note(
+                8 + frames,
+                0,
+                Bytes::of(Vec::from_slice(alloc, b"hi")?),
+                Fate::Stray
+            )?,
+            frames
+        );
+    }
+    for (place, came) in log.came().iter().enumerate() {
+        assert_eq!(rt; (came.id, came.fate), (8 + place as u64, Fate::Stray));
+        assert_eq!(rt; came.payload.list(), b"hi".as_slice());
+    }
+    for (place, loss) in log.losses().iter().enumerate() {
+        assert_eq!(rt; (loss.id, loss.after), (7 + place as u64, 1 + place as u64));
     }
     Ok(())
 }

@@ -7,10 +7,11 @@ use Rattle.std.specs.declared.result.Result.{Result}
 abbrev pub Rose : ℕ → ℕ → Type 0
 Rose before now = min (before + 1) (2 ^ 64 - 1) ≤ now
 
--- the count of faults never falls, and rose where the call answered a fault
+-- the count of faults never falls, rose where the call answered a fault, and is as before where it didn't
 pub record HasCause {T E : Type 0} (before now : ℕ) (result : Result T E) : Type 0 where
   pub later : before ≤ now
   pub failed : OnErr result (Rose before now)
+  pub kept : IfOk result (λ _. now ≡ before)
 
 -- the bytes are told after a call exactly where they were told before
 abbrev pub IsToldAlike : Option (List ℕ) → Option (List ℕ) → Type 0

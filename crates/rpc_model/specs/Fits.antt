@@ -4,6 +4,10 @@ use Rattle.std.specs.List.{IsDistinct}
 use Rattle.rpc_model.specs.declared.chan.Chan.{Chan}
 use Rattle.rpc_model.specs.declared.chan.Chan.TheVariants as chan
 use Rattle.rpc_model.specs.declared.chan.LeafChan.{LeafChan}
+use Rattle.rpc_model.specs.declared.direction.Direction.{Direction}
+use Rattle.rpc_model.specs.declared.direction.Direction.TheVariants as direction
+use Rattle.rpc_model.specs.declared.limits.TheConstants.{CODE_LIMIT, DELAY_LIMIT}
+use Rattle.rpc_model.specs.declared.script.Serve.{Serve}
 use Rattle.rpc_model.specs.declared.script.Script.{Script}
 use Rattle.rpc_model.specs.declared.script.Act.{Act}
 use Rattle.rpc_model.specs.declared.script.Act.TheVariants.{Call, Cancel, Reply, Lose, Tick, Join}
@@ -58,11 +62,26 @@ pub record IsLeaf (servers : ℕ) (leaf : LeafChan) : Type 0 where
 abbrev pub IsChan : ℕ → Chan → Type 0
 IsChan servers (chan.Leaf leaf) = IsLeaf servers leaf
 
+-- a direction that a word can spell
+abbrev pub IsSpelled : Direction → Type 0
+IsSpelled direction.Plain = Unit {0}
+IsSpelled (direction.Err code) = (1 ≤ code) × (code ≤ CODE_LIMIT)
+IsSpelled direction.Drop = Unit {0}
+IsSpelled direction.Twice = Unit {0}
+IsSpelled (direction.Delay ms) = (1 ≤ ms) × (ms ≤ DELAY_LIMIT)
+IsSpelled direction.Close = Unit {0}
+
+-- what one of so many servers does
+pub record IsServe (servers : ℕ) (serve : Serve) : Type 0 where
+  pub known : serve.server < servers
+  pub directions : All IsSpelled serve.words
+
 pub record Fits (script : Script) : Type 0 where
   pub moments : All IsMoment script.acts
   pub acts : All (IsAct (length script.chans)) script.acts
   pub calls_differ : IsDistinct nat_eq (called script.acts)
   pub channels : All (IsChan script.servers) script.chans
+  pub serves : All (IsServe script.servers) script.serves
   pub lines : length script.acts ≤ 500000
   pub some_slot : 1 ≤ script.slots
   pub few_slots : script.slots ≤ 4096

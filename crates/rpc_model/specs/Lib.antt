@@ -6,9 +6,15 @@ pub mod Marks
 pub mod Told
 pub mod Text
 pub mod Words
+pub mod Before
+pub mod SettingLines
+pub mod ChannelLines
+pub mod CallLines
 pub mod Lines
 pub mod Script
+pub mod Gone
 pub mod Fits
 pub mod Moments
 pub mod Early
 pub mod Laws
+pub mod Texts

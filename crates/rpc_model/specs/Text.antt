@@ -5,7 +5,9 @@ use Rattle.rpc_model.specs.declared.event.End.TheVariants.{Good, Bad}
 use Rattle.rpc_model.specs.declared.told.Told.{Told}
 use Rattle.rpc_model.specs.declared.told.Told.TheVariants.{Ended, Unended, Full, Gone}
 use Rattle.rpc_model.specs.declared.script.Cause.{Cause}
-use Rattle.rpc_model.specs.declared.script.Cause.TheVariants.{TooLong, NotBuilt}
+use Rattle.rpc_model.specs.declared.script.Cause.TheVariants.{TooLong, LineTooLong, BadByte, BadLine, NotBuilt, SimOnly, LiveOnly, BadNumber, BadOption}
+use Rattle.rpc_model.specs.declared.script.Cause.TheVariants.{BadName, DupName, NoName, BadSub, BadTag, BadWord, DupCall, NoCall, BadAttempt, TextTooLong}
+use Rattle.rpc_model.specs.declared.script.Cause.TheVariants.{Late, MissingPart, TooDeep, TooWide, TooMany, TooMuch}
 
 -- a text as a word: the empty text is written as a dash
 abbrev pub text_word : List ℕ → List ℕ
@@ -24,7 +26,30 @@ told_text told = flat_map told_line told
 
 abbrev pub cause_word : Cause → List ℕ
 cause_word TooLong = codes "TooLong"
+cause_word LineTooLong = codes "LineTooLong"
+cause_word BadByte = codes "BadByte"
+cause_word BadLine = codes "BadLine"
 cause_word NotBuilt = codes "NotBuilt"
+cause_word SimOnly = codes "SimOnly"
+cause_word LiveOnly = codes "LiveOnly"
+cause_word BadNumber = codes "BadNumber"
+cause_word BadOption = codes "BadOption"
+cause_word BadName = codes "BadName"
+cause_word DupName = codes "DupName"
+cause_word NoName = codes "NoName"
+cause_word BadSub = codes "BadSub"
+cause_word BadTag = codes "BadTag"
+cause_word BadWord = codes "BadWord"
+cause_word DupCall = codes "DupCall"
+cause_word NoCall = codes "NoCall"
+cause_word BadAttempt = codes "BadAttempt"
+cause_word TextTooLong = codes "TextTooLong"
+cause_word Late = codes "Late"
+cause_word MissingPart = codes "MissingPart"
+cause_word TooDeep = codes "TooDeep"
+cause_word TooWide = codes "TooWide"
+cause_word TooMany = codes "TooMany"
+cause_word TooMuch = codes "TooMuch"
 
 -- what is written of a script that is refused: the line, counted from 1, and the cause
 abbrev pub refused_text : ℕ → Cause → List ℕ

@@ -7,8 +7,13 @@
 
 mod chan;
 mod codes;
+mod direction;
+mod entry;
 mod event;
+mod journal;
 mod laws;
+mod limits;
+mod line;
 mod script;
 mod sent;
 mod told;
@@ -19,12 +24,22 @@ pub use codes::{
     ELIMIT, ELOGOFF, ENOMETHOD, ENOSERVICE, EPCHANFINISH, EPIPE, EREQUEST, ERESPONSE, ERPCTIMEDOUT,
     ETOOMANYFAILS, retriable,
 };
+pub use direction::Direction;
+pub use entry::{Entry, Fate, Origin};
 pub use event::{End, Event};
+pub use journal::{CallLog, Came, CancelNote, Fired, How, Journal, LaneLog, LossNote, WireLog};
 pub use laws::{
     attempts_are_few, due_marks_may_be_taken_at_once, ends_stay, one_attempt,
     replaced_attempts_do_nothing, sends_are_attempts, success_needs_a_live_reply, told_once,
 };
-pub use script::{Act, Cause, Mode, Script};
+pub use limits::{
+    ATTEMPT_WEIGHT, CALL_NUMBER_LIMIT, CHANNEL_LIMIT, CODE_LIMIT, DEFAULT_SLOTS, DELAY_LIMIT,
+    EVENT_LIMIT, LINE_LIMIT, LIVE_CALL_LIMIT, LIVE_WEIGHT_LIMIT, MOMENT_LIMIT, NAME_LIMIT,
+    RETRY_LIMIT, SCRIPT_LIMIT, SERVER_LIMIT, SERVER_NAME_LIMIT, SIM_CALL_LIMIT, SIM_WEIGHT_LIMIT,
+    SLOT_LIMIT, SUB_LIMIT, TEXT_LIMIT, WAIT_LIMIT,
+};
+pub use line::Line;
+pub use script::{Act, Cause, Mode, Script, Serve};
 pub use sent::Sent;
 pub use told::Told;
 

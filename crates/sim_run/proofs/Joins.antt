@@ -187,10 +187,6 @@ locked-may id k slots now wires may locks is =
     let value : value_says (look id now) ≡ Some f.0.value = ap (λ (ss : List (Slot Begun)). value_says (look id ss)) is ∙ locked-value id k slots f.0 f.1 in
     subst (λ o. FoundMayIssue (id - k) o wires) (sym value) (may f.0 k (finds-look id k slots f.0 f.1)).1
 
--- The place of an id in its range isn't above the id.
-pub locked-within : (id k : ℕ) (slots : List (Slot Begun)) (wires : List Link) → LookMayIssue id slots wires → lock_says (look id slots) ≡ Yes k → k ≤ id
-locked-within id k slots wires may locks = let f = finds id k slots locks in (may f.0 k (finds-look id k slots f.0 f.1)).0
-
 -- What it issues goes out.
 pub locked-issue : (h : Begun → Begun) (id k : ℕ) (slots now : List (Slot Begun)) (wires : List Link) → lock_says (look id slots) ≡ Yes k → now ≡ changed (locked (version_of id)) id slots → issue_found (id - k) h (value_says (look id now)) wires ≡ issue_by id h (look id slots) wires
 locked-issue h id k slots now wires locks is =

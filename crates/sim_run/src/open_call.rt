@@ -33,7 +33,7 @@ pub(crate) struct OpenCall {
 }
 
 impl Model for OpenCall {
-    ghost use Rattle.std.specs.Prelude.{◌≡◌};
+    ghost use Rattle.std.specs.Prelude.{◌≡◌, ◌<◌, ◌^◌};
     ghost use Rattle.rpc_model.specs.Marks.{Begun};
     ghost use Rattle.sim_run.specs.Calls.{begun_of, IsOpen};
 
@@ -41,7 +41,7 @@ impl Model for OpenCall {
 
     ghost view = { λ c. begun_of c.call c.chan c.request c.leaf c.end c.deadline c.backup };
 
-    ghost invariant = { λ c. (c.leaf.retry ≡ c.chan.retry) × IsOpen c.end c.leaf.outcome };
+    ghost invariant = { λ c. (c.leaf.retry ≡ c.chan.retry) × (c.chan.retry < 2 ^ 31) × IsOpen c.end c.leaf.outcome };
 }
 
 impl OpenCall {
@@ -98,7 +98,7 @@ impl OpenCall {
         } = self;
         match end {
             None => Told::Unended(call),
-            Some(end) => Told::Ended(call, end, leaf.issued()),
+            Some(end) => Told::Ended(call, end, leaf.issued() as u32),
         }
     }
 
@@ -106,7 +106,7 @@ impl OpenCall {
     pub(crate) fn issued(&self) -> u32
         ensures { result ≡ attempts self.now.state }
     {
-        self.leaf.issued()
+        self.leaf.issued() as u32
     }
 
     /// The server of an attempt.

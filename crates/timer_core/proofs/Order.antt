@@ -150,15 +150,6 @@ equal_all_added moment rank marks (m ∷ more) h =
 pub first : (m : Mark) (ms : List Mark) → IsSorted (m ∷ ms) → IsFirst m (m ∷ ms)
 first m ms h = (later_itself m.moment m.rank, h.0)
 
-first_if : (b : Bool) (mark m : Mark) (ms : List Mark) → IsFirst m (m ∷ ms) → cond b (Some m) None ≡ Some mark → IsFirst mark (m ∷ ms)
-first_if true mark m ms h e = let s : m ≡ mark = cc in subst (λ (x : Mark). IsFirst x (m ∷ ms)) s h
-first_if false mark m ms h e = absurd (cc)
-
--- the mark that is taken comes after none
-pub first_due : (now : ℕ) (mark : Mark) (ms : List Mark) → IsSorted ms → due_mark now ms ≡ Some mark → IsFirst mark ms
-first_due now mark [] h e = tt
-first_due now mark (m ∷ ms) h e = first_if (is_due now m) mark m ms (first m ms h) e
-
 none_if : (now : ℕ) (b : Bool) (m : Mark) (ms : List Mark) → is_due now m ≡ b → IsFirst m ms → cond b (Some m) None ≡ None → NoneIsDue now (m ∷ ms)
 none_if now true m ms t h e = absurd (cc)
 none_if now false m ms t h e =
@@ -168,8 +159,3 @@ none_if now false m ms t h e =
 pub none_taken : (now : ℕ) (ms : List Mark) → IsSorted ms → due_mark now ms ≡ None → NoneIsDue now ms
 none_taken now [] h e = tt
 none_taken now (m ∷ ms) h e = none_if now (is_due now m) m ms refl h.0 e
-
--- and the other way round
-pub none_due : (now : ℕ) (ms : List Mark) → NoneIsDue now ms → due_mark now ms ≡ None
-none_due now [] h = refl
-none_due now (m ∷ ms) h = ap (λ b. cond b (Some m) None) h.0

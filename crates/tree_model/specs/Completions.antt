@@ -49,7 +49,9 @@ module _ {M G : Type 0} (kinds : Kinds M G) where
       let first = (start kinds plan call request begun).state in
       completions_from path call first events (newly_at path (waits plan) first [])
 
-  -- Why a parallel node at the end of a path has its end, or none: by its completions, by its deadline after completions that brought none, because no sub was started, or, at the root, by a cancel after completions that brought none.
+  -- Why a parallel node at the end of a path has its end, or none: by its completions, by its deadline after
+  -- completions that brought none, because no sub was started, or, at the root, by a cancel after completions that
+  -- brought none.
   abbrev pub EndsBy : List ℕ → Rule M G → List ℕ → List (ℕ × End) → Option End → Type 0
   EndsBy path rule request done end =
       let asked = mapped kinds.map rule.maps request in

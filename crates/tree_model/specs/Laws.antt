@@ -37,11 +37,13 @@ module _ {M G : Type 0} (kinds : Kinds M G) where
   LeavesIssueFew = (plan : Plan M G) (call : ℕ) (request : List ℕ) (begun : ℕ) (events : List (Event × ℕ))
       → EachLeaf (λ chan leaf. (1 ≤ leaf.issued) × (leaf.issued ≤ 1 + chan.retry)) (machine kinds plan call request begun events).state
 
-  -- Each node has the channel that the plan has at its place, and the request that the mappers above it made of the call's; a parallel node has the limits that these mappers leave, and a selective node as many tries as the plan.
+  -- Each node has the channel that the plan has at its place, and the request that the mappers above it made of the
+  -- call's; a parallel node has the limits that these mappers leave, and a selective node as many tries as the plan.
   abbrev pub NodesAreOfThePlan : Type 0
   NodesAreOfThePlan = (plan : Plan M G) (call : ℕ) (request : List ℕ) (begun : ℕ) (events : List (Event × ℕ)) → IsOf kinds request plan (machine kinds plan call request begun events).state
 
-  -- What a call sent is, in some order, what its state shows: of each leaf that was started the first attempts, one for each that it issued, each to its own server and with the leaf's request.
+  -- What a call sent is, in some order, what its state shows: of each leaf that was started the first attempts, one for
+  -- each that it issued, each to its own server and with the leaf's request.
   abbrev pub SendsAreOfTheState : Type 0
   SendsAreOfTheState = (test : Send → Bool) (plan : Plan M G) (call : ℕ) (request : List ℕ) (begun : ℕ) (events : List (Event × ℕ))
       → let run = machine kinds plan call request begun events in count_by test run.sends ≡ count_by test (sends_of call 0 run.state)

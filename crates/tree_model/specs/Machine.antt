@@ -1,4 +1,5 @@
--- The plain machine of a call: how its tree of nodes starts, and what an event does to it. brpc's documents on the client and on combination channels, with this project's own choices where they leave one.
+-- The plain machine of a call: how its tree of nodes starts, and what an event does to it. brpc's documents on the
+-- client and on combination channels, with this project's own choices where they leave one.
 use Rattle.std.specs.Prelude.{ℕ, ◌+◌, Bool, true, false, ◌==◌, nat_lt, List, [], ◌∷◌, ◌++◌, fold, Option, None, Some, is_none, if◌then◌else◌}
 use Rattle.rpc_model.specs.declared.codes.TheConstants.{ECANCELED, ERPCTIMEDOUT}
 use Rattle.rpc_model.specs.declared.chan.LeafChan.{LeafChan}
@@ -15,7 +16,8 @@ use Rattle.tree_model.specs.Plan.{Plan, leaf_plan, par_plan, sel_plan, Plans, la
 use Rattle.tree_model.specs.Versions.{nodes}
 use Rattle.tree_model.specs.Parallel.{mapped, refused, Limits, limits, judged, par_deadline}
 use Rattle.tree_model.specs.Selective.{next_try}
-use Rattle.tree_model.specs.State.{Par, Sel, State, waits, leaf_state, par_state, sel_state, States, last_state, state_then, Run, Below, end_of, ends_of, size, waiting_states, quiet, still, beside, run_then, run_beside, and_then}
+use Rattle.tree_model.specs.State.{Par, Sel, State, waits, leaf_state, par_state, sel_state, States, last_state, state_then, Run, Below, end_of, ends_of}
+use Rattle.tree_model.specs.State.{size, waiting_states, quiet, still, beside, run_then, run_beside, and_then}
 
 -- the node that an event names
 abbrev pub node_of : Event → ℕ

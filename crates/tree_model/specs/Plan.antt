@@ -1,4 +1,5 @@
--- The plan of a call: the tree of its nodes, numbered in preorder from 0. brpc's documents on combination channels; how a selective channel rotates, and which servers have a part, are this project's own choices.
+-- The plan of a call: the tree of its nodes, numbered in preorder from 0. brpc's documents on combination channels; how
+-- a selective channel rotates, and which servers have a part, are this project's own choices.
 use Rattle.std.specs.Prelude.{ℕ, zero, suc, ◌+◌, ◌%◌, ◌==◌, ◌&&◌, List, [], ◌∷◌, length, map, filter, Option, None, Some, slice_get, slice_index}
 use Rattle.rpc_model.specs.declared.chan.LeafChan.{LeafChan}
 use Rattle.tree_model.specs.declared.chan.Chan.{Chan}

@@ -1,5 +1,5 @@
 -- What was read stands in order, and is at most one byte longer than a script may be.
-use Rattle.std.proofs.Common.{vec_len, ◌≡◌, ◌-◌, ◌≤◌}
+use Rattle.std.proofs.Common.{vec_len, ◌≡◌, ◌-◌, ◌≤◌, ◌+◌}
 use Rattle.std.specs.Io.KnownBytes.{Consumes}
 use Rattle.brpc_top.proofs.input.read_script_bytes.Given as goal
 
@@ -8,7 +8,7 @@ invariant-loop-bytes g l = record {
   sized : vec_len l.piece ≡ 65536;
   few : vec_len l.bytes ≤ 16777217;
   read : Consumes (g.S.Source.left l.fn.source) (g.S.Source.left l.source) l.bytes.items;
-  later : g.S.Source.faults l.fn.source ≤ g.S.Source.faults l.source;
+  kept : g.S.Source.faults l.source ≡ g.S.Source.faults l.fn.source;
 }
 
 abbrev pub decreases-loop-bytes : goal.decreases-loop-bytes

@@ -1,7 +1,7 @@
 -- What is judged so far goes on to what all lines say.
 use Rattle.std.proofs.Common.{◌≡◌, ◌+◌, ◌==◌, length, drop}
 use Rattle.std.specs.List.{slice_split}
-use Rattle.rpc_model.specs.Lines.{nothing}
+use Rattle.rpc_model.specs.Before.{nothing}
 use Rattle.rpc_model.specs.Script.{lines_say}
 use Rattle.call_script.proofs.reading.read_lines.Given as goal
 

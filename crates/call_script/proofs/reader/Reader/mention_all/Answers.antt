@@ -2,7 +2,7 @@
 use Rattle.std.proofs.Common.{rules, ◌≡◌, ℕ, List, [], Bor, length, get_or, map, true, false, arith, sym, ap, ◌∙◌}
 use Rattle.std.specs.Prelude.{nat_le}
 use Rattle.std.proofs.lemmas.Bool.Decides.{nat_tests}
-use Rattle.rpc_model.specs.Lines.{mention, mention_all}
+use Rattle.rpc_model.specs.ChannelLines.{mention, mention_all}
 use Rattle.call_script.proofs.Servers.{mentioned_all, mentioned_next, mentioned_over, mention_all_some}
 use Rattle.call_script.proofs.reader.Reader.mention_all.Goals as goal
 

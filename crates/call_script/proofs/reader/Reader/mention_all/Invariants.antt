@@ -1,6 +1,6 @@
 -- What is mentioned so far goes on to all.
 use Rattle.std.proofs.Common.{◌≡◌, ◌≤◌, length, map, drop}
-use Rattle.rpc_model.specs.Lines.{mention_all}
+use Rattle.rpc_model.specs.ChannelLines.{mention_all}
 use Rattle.call_script.proofs.reader.Reader.mention_all.Given as goal
 
 abbrev pub invariant-loop-name : goal.invariant-loop-name

@@ -5,4 +5,4 @@ use Rattle.call_script.proofs.reader.Reader.push_event.Goals as goal
 
 pub invariant_of-self-2 : goal.invariant_of-self-2
 invariant_of-self-2 c =
-    rw c.in_ok-push.ensures.items (within_event _ _ _ _ _ _ c.args.act _ _ c.self.invariant c.if-self-ge400000.false c.requires.moment (search rules) c.requires.event)
+    rw c.in_ok-push.ensures.items (within_event _ _ _ _ _ _ c.args.act _ _ _ c.self.invariant (search rules) c.requires.moment (search rules) c.requires.event)

@@ -1,7 +1,7 @@
 -- One more number is found.
 use Rattle.std.proofs.Common.{rules, ◌≡◌, ℕ, ◌<◌, ◌++◌, ◌∷◌, List, [], Bor, length, get_or, unwrap_or, refl, ◌∙◌}
 use Rattle.std.proofs.lemmas.List.Elements.{All-push}
-use Rattle.rpc_model.specs.Lines.{index_of}
+use Rattle.rpc_model.specs.Words.{index_of}
 use Rattle.call_script.proofs.Servers.{numbered_next, number_below}
 use Rattle.call_script.proofs.reader.Reader.server_numbers.Goals as goal
 

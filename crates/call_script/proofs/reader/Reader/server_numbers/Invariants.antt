@@ -1,6 +1,6 @@
 -- The numbers so far and those of the names that are left are all.
 use Rattle.std.proofs.Common.{◌≡◌, ◌<◌, ◌++◌, All, length, map, drop}
-use Rattle.rpc_model.specs.Lines.{numbers_of}
+use Rattle.rpc_model.specs.ChannelLines.{numbers_of}
 use Rattle.call_script.proofs.reader.Reader.server_numbers.Given as goal
 
 abbrev pub invariant-loop-name : goal.invariant-loop-name

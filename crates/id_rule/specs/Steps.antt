@@ -1,0 +1,163 @@
+-- What each kind of step tells the pass that takes it: of the step, the pass before, the word found and the pass after. This project's own choice.
+use Rattle.std.specs.Prelude.{◌≡◌, ◌≢◌, ℕ, ◌^◌, ◌+◌, ◌<◌, ◌≤◌, true, List, [], ◌∷◌, ◌++◌, reverse, Option, Some, None}
+use Rattle.atomic_table.specs.Table.{Me, Step, rest}
+use mathlib.Core.Option.{some}
+use mathlib.Core.List.{IsPrefix}
+use Rattle.id_pool.specs.Ids.{make_id}
+use Rattle.rpc_model.specs.Gone.{head_in, first_in, range_in, is_live_in}
+use Rattle.id_rule.specs.Changes.{part_with_spot, part_with_range, part_with_hold, part_with_taking, part_without_taking}
+use Rattle.id_rule.specs.Changes.{view_after_load, view_with_seen, view_with_hand, view_with_list, pushing_view, taking_view, ending_view}
+use Rattle.id_rule.specs.declared.view.Queued.{Queued}
+use Rattle.id_rule.specs.declared.view.Receipt.{Receipt}
+use Rattle.id_rule.specs.declared.view.View.{View}
+use Rattle.id_rule.specs.Nodes.{node_word, head_of, word_at, node_of_word, pass_of_node, receipts_of, numbers_of}
+use Rattle.id_rule.specs.Parts.{HasNumber, HasLog, AreAll, own_number, part_of, view_with}
+use Rattle.id_rule.specs.Receipts.{IsReordered, IsRising, receipts_of_range, receipts_in, IsGrownWithout}
+use Rattle.id_rule.specs.Words.{packed_word}
+
+-- a pass as the table sees it: its view, and the slots that it took, each with what lies in it
+abbrev pub Mine : Type 0 → Type 0 → Type 0
+Mine T E = Me (Option T) (View E)
+
+-- what lies in the slot that was taken last
+abbrev pub value_in : {T : Type 0} → List (ℕ × Option T) → Option T
+value_in [] = None
+value_in (t ∷ ts) = t.1
+
+-- the log of a value, if there is one
+abbrev pub log_in : {T E : Type 0} → (T → List E) → Option T → List E
+log_in log None = []
+log_in log (Some x) = log x
+
+module _ {T E : Type 0} where
+  -- an exchange that found another word than the one expected is a load
+  abbrev pub HasMissed : Step (Option T) → Mine T E → ℕ → Mine T E → Type 0
+  HasMissed s m n m' = n ≢ s.first → m' ≡ (view_after_load m.0 s.word n, m.1)
+
+  -- a load of a slot's word; a version that it shows live is none that the pass has seen end
+  abbrev pub IsLook : Step (Option T) → Mine T E → ℕ → Mine T E → Type 0
+  IsLook s m n m' =
+      (m' ≡ (view_after_load m.0 s.word n, m.1))
+      × (n < 2 ^ 62)
+      × ((version : ℕ) → is_live_in n version ≡ true → (part_of m.0 s.word).ended_below ≤ version)
+
+  -- vacant to reserved: the pass, which had no Spot of the slot, has one
+  abbrev pub IsReserving : Step (Option T) → Mine T E → ℕ → Mine T E → Type 0
+  IsReserving s m n m' =
+      (n ≡ s.first
+      → (m' ≡ (view_with m.0 m.0.seen s.word (part_with_spot (part_of m.0 s.word) (Some (first_in s.first, range_in s.second))), m.1))
+      × ((part_of m.0 s.word).spot ≡ None))
+      × HasMissed s m n m'
+
+  -- reserved to vacant: the Spot goes
+  abbrev pub IsGivingUp : Step (Option T) → Mine T E → ℕ → Mine T E → Type 0
+  IsGivingUp s m n m' = m' ≡ (view_with m.0 m.0.seen s.word (part_with_spot (part_of m.0 s.word) None), m.1)
+
+  -- reserved to locked: the range begins with the log of the value that was announced, and the empty slot is with the pass, which had no Hold of it
+  abbrev pub IsInstalling : (T → List E) → Step (Option T) → Mine T E → ℕ → Mine T E → Type 0
+  IsInstalling log s m n m' = (x : T)
+      × (s.said ≡ some (Some x))
+      × (m' ≡ (view_with m.0 m.0.seen s.word (part_with_range (part_of m.0 s.word) (first_in s.second, range_in s.second) (log x)), (s.word, None) ∷ m.1))
+      × ((part_of m.0 s.word).hold ≡ None)
+
+  -- the slot is with the pass, which had no Hold of it, with its range's value, whose log begins with each log of the range that the pass knows
+  abbrev pub HasLocked : (T → List E) → (T → ℕ) → Step (Option T) → Mine T E → Mine T E → Type 0
+  HasLocked log first_id s m m' = (x : T)
+      × (m' ≡ (
+        view_with m.0 m.0.seen s.word (part_with_hold (part_of m.0 s.word) (Some (first_in s.first, range_in s.first)) (first_in s.first) (log x)),
+        (s.word, Some x) ∷ m.1,
+      ))
+      × (first_id x ≡ make_id s.word (first_in s.first))
+      × ((l : List E) → HasLog (part_of m.0 s.word).logs (first_in s.first) l → IsPrefix l (log x))
+      × ((part_of m.0 s.word).hold ≡ None)
+
+  -- free to locked
+  abbrev pub IsLocking : (T → List E) → (T → ℕ) → Step (Option T) → Mine T E → ℕ → Mine T E → Type 0
+  IsLocking log first_id s m n m' = (n ≡ s.first → HasLocked log first_id s m m') × HasMissed s m n m'
+
+  -- locked without a head to free: the slot goes home with the value that lies in it
+  abbrev pub IsUnlocking : (T → List E) → Step (Option T) → Mine T E → ℕ → Mine T E → Type 0
+  IsUnlocking log s m n m' =
+      (n ≡ s.first → m' ≡ (
+        view_with m.0 m.0.seen s.word (part_with_hold (part_of m.0 s.word) None (first_in s.second) (log_in log (value_in m.1))),
+        rest m.1,
+      ))
+      × HasMissed s m n m'
+
+  -- locked to ended: the slot goes home with the value that lies in it, and the chain is the pass's list; what the last entries leave out is dropped
+  abbrev pub IsEnding : (T → List E) → (E → Option Receipt) → Step (Option T) → Mine T E → ℕ → Mine T E → Type 0
+  IsEnding log rec s m n m' = (x : T) → m.1 ≡ (s.word, Some x) ∷ rest m.1 → (qs : List Queued)
+      × (out : List Receipt)
+      × (head_in n ≡ head_of qs)
+      × AreAll (λ q. (1 ≤ q.node) × (q.receipt.pass ≡ pass_of_node m.0.width q.node)) qs
+      × AreAll (λ q. q.offset < range_in s.first) qs
+      × ((a : ℕ) → IsRising 0 (numbers_of a ((part_of m.0 s.word).got ++ reverse (receipts_of qs))))
+      × ((l : List E) → (part_of m.0 s.word).turn ≡ Some l → IsGrownWithout rec l (log x) (part_of m.0 s.word).got out)
+      × (m' ≡ (ending_view m.0 s.word (first_in s.first) (first_in s.first + range_in s.first) (log x) out qs, rest m.1))
+
+  -- the slot is with the Owner's pass, with its range's last value, whose log begins with each log of the range that the pass knows
+  abbrev pub HasTaken : (T → List E) → (T → ℕ) → Step (Option T) → Mine T E → ℕ → ℕ × ℕ → Mine T E → Type 0
+  HasTaken log first_id s m n r m' = (x : T)
+      × (m' ≡ (view_with m.0 (m.0.seen ++ (s.word, n) ∷ []) s.word (part_with_taking (part_of m.0 s.word) r (log x)), (s.word, Some x) ∷ m.1))
+      × (first_id x ≡ make_id s.word r.0)
+      × ((l : List E) → HasLog (part_of m.0 s.word).logs r.0 l → IsPrefix l (log x))
+
+  -- a load by an Owner's pass: where the word is the ended word of the Owner's range, the pass takes the slot
+  abbrev pub IsTaking : (T → List E) → (T → ℕ) → Step (Option T) → Mine T E → ℕ → Mine T E → Type 0
+  IsTaking log first_id s m n m' = (r : ℕ × ℕ) → (part_of m.0 s.word).owner ≡ Some r
+      → (n ≡ packed_word r.0 r.1 4 0 → HasTaken log first_id s m n r m')
+      × (n ≢ packed_word r.0 r.1 4 0 → m' ≡ (view_after_load m.0 s.word n, m.1))
+
+  -- ended to vacant or retired: the slot goes back empty. Of a range that the pass destroyed and collected, its receipts are, each once, those in the last
+  -- log and those dropped
+  abbrev pub IsEmptying : (E → Option Receipt) → Step (Option T) → Mine T E → ℕ → Mine T E → Type 0
+  IsEmptying rec s m n m' =
+      (m' ≡ (view_with m.0 m.0.seen s.word (part_without_taking (part_of m.0 s.word)), rest m.1))
+      × ((f a : ℕ) (l : List E) → HasNumber f (part_of m.0 s.word).destroyed → HasLog (part_of m.0 s.word).last f l → HasNumber a m.0.numbers → IsReordered
+      (numbers_of a (receipts_of_range f (part_of m.0 s.word).receipts))
+      (numbers_of a (receipts_in rec l) ++ numbers_of a (receipts_of_range f (part_of m.0 s.word).dropped)))
+
+  -- a store into the first word of the node in hand
+  abbrev pub IsFirstWrite : Step (Option T) → Mine T E → ℕ → Mine T E → Type 0
+  IsFirstWrite s m n m' = (h : ℕ × ℕ × ℕ) → m.0.hand ≡ Some h → m' ≡ (view_with_hand m.0 (Some (h.0, s.first, h.2)), m.1)
+
+  -- a store into the second word of the node in hand
+  abbrev pub IsSecondWrite : Step (Option T) → Mine T E → ℕ → Mine T E → Type 0
+  IsSecondWrite s m n m' = (h : ℕ × ℕ × ℕ) → m.0.hand ≡ Some h → m' ≡ (view_with_hand m.0 (Some (h.0, h.1, s.first)), m.1)
+
+  -- the node in hand is free again
+  abbrev pub IsLettingGo : Step (Option T) → Mine T E → ℕ → Mine T E → Type 0
+  IsLettingGo s m n m' = m' ≡ (view_with_hand m.0 None, m.1)
+
+  -- a load of one's own node, which is in hand where it was free
+  abbrev pub IsPick : Step (Option T) → Mine T E → ℕ → Mine T E → Type 0
+  IsPick s m n m' =
+      (n ≡ 0 → (second : ℕ) × (m' ≡ (view_with_hand (view_with_seen m.0 s.word n) (Some (node_of_word s.slots s.word, 0, second)), m.1)))
+      × (n ≢ 0 → m' ≡ (view_with_seen m.0 s.word n, m.1))
+
+  -- the push of a head: one error waits, and the pass has its receipt
+  abbrev pub IsPush : Step (Option T) → Mine T E → ℕ → Mine T E → Type 0
+  IsPush s m n m' =
+      (n ≡ s.first → (h : ℕ × ℕ × ℕ) → m.0.hand ≡ Some h
+      → m' ≡ (pushing_view m.0 s.word (first_in s.first) record { pass = own_number m.0.numbers; number = h.2 }, m.1))
+      × HasMissed s m n m'
+
+  -- the holder takes the chain of its slot, whose head the word found has; each pass's numbers rise
+  abbrev pub IsTakingAll : Step (Option T) → Mine T E → ℕ → Mine T E → Type 0
+  IsTakingAll s m n m' = (qs : List Queued)
+      × (m' ≡ (taking_view m.0 s.word qs, m.1))
+      × (head_in n ≡ head_of qs)
+      × AreAll (λ q. q.receipt.pass ≡ pass_of_node m.0.width q.node) qs
+      × AreAll (λ q. q.offset < range_in s.first) qs
+      × ((a : ℕ) → IsRising 0 (numbers_of a ((part_of m.0 s.word).got ++ reverse (receipts_of qs))))
+
+  -- a load of a word of the first taken node: it has that node's error
+  abbrev pub IsRead : Step (Option T) → Mine T E → ℕ → Mine T E → Type 0
+  IsRead s m n m' = (m' ≡ m)
+      × ((q : Queued) (qs : List Queued) → m.0.taken ≡ q ∷ qs
+      → (s.word ≡ word_at s.slots q.node → n ≡ node_word (head_of qs) q.offset q.code)
+      × (s.word ≡ word_at s.slots q.node + 1 → n ≡ q.receipt.number))
+
+  -- the first taken node is free
+  abbrev pub IsFreeing : Step (Option T) → Mine T E → ℕ → Mine T E → Type 0
+  IsFreeing s m n m' = (q : Queued) (qs : List Queued) → m.0.taken ≡ q ∷ qs → m' ≡ (view_with_list m.0 qs, m.1)

@@ -1,0 +1,5 @@
+use Rattle.id_shared.specs.Standing.{IsPassOf}
+use Rattle.id_shared.proofs.tests.check.Given as goal
+
+abbrev pub invariant-loop-call : goal.invariant-loop-call
+invariant-loop-call g l = IsPassOf l.ids l.pass

@@ -1,0 +1,185 @@
+-- What each answer of a call says: of the id or the range asked for, the pass before, the answer and the pass after. Locking, ending and joining by id
+-- follow bthread_id; reserving, collecting and the words that show a refusal are this project's own choice.
+use Rattle.std.specs.Prelude.{◌≡◌, ◌≢◌, ◌⊎◌, ℕ, ◌<◌, ◌≤◌, List, [], ◌∷◌, ◌++◌, length, true, Option, Some, None}
+use mathlib.Core.List.{IsPrefix}
+use Rattle.id_pool.specs.Ids as ids
+use Rattle.rpc_model.specs.Gone.{code_in, first_in, range_in, is_live_in, gone_by}
+use Rattle.id_rule.specs.Changes.{view_after_load}
+use Rattle.id_rule.specs.declared.view.Known.{Known}
+use Rattle.id_rule.specs.declared.view.Receipt.{Receipt}
+use Rattle.id_rule.specs.declared.view.View.{View}
+use Rattle.id_rule.specs.Receipts.{IsGrown, IsGrownWithout}
+use Rattle.id_rule.specs.Parts.{part_of, HasLog, AreAll}
+use Rattle.id_rule.specs.Words.{packed_word}
+use Rattle.id_shared.specs.declared.answers.Reserve.{Reserve}
+use Rattle.id_shared.specs.declared.answers.Reserve.TheVariants as reserve
+use Rattle.id_shared.specs.declared.answers.TryLock.{TryLock}
+use Rattle.id_shared.specs.declared.answers.TryLock.TheVariants as try
+use Rattle.id_shared.specs.declared.answers.LockEnd.{LockEnd}
+use Rattle.id_shared.specs.declared.answers.LockEnd.TheVariants as lock
+use Rattle.id_shared.specs.declared.answers.CollectEnd.{CollectEnd}
+use Rattle.id_shared.specs.declared.answers.CollectEnd.TheVariants as collect
+use Rattle.id_shared.specs.Standing.{Claim, Standing, first_id_of}
+use Rattle.id_shared.specs.Views.{words_from, words_of, with_view, view_after_loads, view_with_spot, view_with_hold, view_after_collect}
+
+-- a range may have 1 to 1,024 ids
+abbrev pub IsSize : ℕ → Type 0
+IsSize range = (1 ≤ range) × (range ≤ 1024)
+
+-- the id names this slot of a table with so many
+abbrev pub IsSlotOf : ℕ → ℕ → ℕ → Type 0
+IsSlotOf slots id slot = (ids.slot_of id ≡ Some slot) × (slot < slots)
+
+-- the id names no slot of a table with so many
+abbrev pub HasNoSlot : ℕ → ℕ → Type 0
+HasNoSlot slots id = (slot : ℕ) → ids.slot_of id ≡ Some slot → slots ≤ slot
+
+-- the word is free and has the id's version
+abbrev pub IsFreeFor : ℕ → ℕ → Type 0
+IsFreeFor word id = (is_live_in word (ids.version_of id) ≡ true) × (code_in word ≡ 2)
+
+-- the word is locked and has the id's version
+abbrev pub IsHeldFor : ℕ → ℕ → Type 0
+IsHeldFor word id = (is_live_in word (ids.version_of id) ≡ true) × (code_in word ≡ 3)
+
+-- the slots were looked at from 0 on: this one's word was vacant, and none before it
+abbrev pub IsFirstVacant : ℕ → ℕ → ℕ → List ℕ → Type 0
+IsFirstVacant slots slot word words = (slot < slots)
+    × (code_in word ≡ 0)
+    × ((before : List ℕ) × (words ≡ before ++ word ∷ []) × (length before ≡ slot) × AreAll (λ n. code_in n ≢ 0) before)
+
+module _ {E : Type 0} where
+  -- the log begins with each log of the range that is among those known
+  abbrev pub HasAllLogs : List (Known E) → ℕ → List E → Type 0
+  HasAllLogs ks first log = (l : List E) → HasLog ks first l → IsPrefix l log
+
+  -- after a look at the words: the pass noted them
+  abbrev pub HasLooked : Standing E → Standing E → List (ℕ × ℕ) → View E → Type 0
+  HasLooked p q more v = v ≡ view_after_loads p.view (words_from 0 q.words ++ more)
+
+  -- the exchange found the vacant word, which gave the Spot, or another
+  abbrev pub IsReservedFrom : ℕ → ℕ → ℕ → Standing E → Reserve → Standing E → Type 0
+  IsReservedFrom slot word range p (reserve.Spot c) q = (c.slot ≡ slot)
+      × (c.first ≡ first_in word)
+      × (c.size ≡ range)
+      × (q ≡ with_view p (view_with_spot p.view c))
+      × ((part_of p.view slot).spot ≡ None)
+  IsReservedFrom slot word range p reserve.Full q = ⊥
+  IsReservedFrom slot word range p (reserve.Again old found) q = (old ≡ word) × (found ≢ word) × (q ≡ with_view p (view_after_load p.view slot found))
+  IsReservedFrom slot word range p reserve.BadRange q = ⊥
+
+  -- `reserve`
+  abbrev pub IsReserved : ℕ → ℕ → Standing E → Reserve → Standing E → Type 0
+  IsReserved slots range p (reserve.Spot c) q = IsSize range
+      × ((word : ℕ) × IsFirstVacant slots c.slot word q.words × (c.first ≡ first_in word))
+      × (c.size ≡ range)
+      × (q.view ≡ view_with_spot (view_after_loads p.view (words_from 0 q.words)) c)
+      × ((part_of p.view c.slot).spot ≡ None)
+  IsReserved slots range p reserve.Full q = IsSize range
+      × (length q.words ≡ slots)
+      × AreAll (λ n. code_in n ≢ 0) q.words
+      × (q.view ≡ view_after_loads p.view (words_from 0 q.words))
+  IsReserved slots range p (reserve.Again word found) q = IsSize range
+      × (found ≢ word)
+      × ((slot : ℕ) × IsFirstVacant slots slot word q.words × (q.view ≡ view_after_load (view_after_loads p.view (words_from 0 q.words)) slot found))
+  IsReserved slots range p reserve.BadRange q = (range < 1 ⊎ 1024 < range) × (q ≡ p)
+
+module _ {T E : Type 0} (log : T → List E) (first_id : T → ℕ) where
+  -- the Hold is of the range in the word that the pass saw last, and the value is that range's, with a log no older than any that the pass knows
+  abbrev pub IsLocked : View E → ℕ → Claim → T → Type 0
+  IsLocked v word c x = (c.first ≡ first_in word)
+      × (c.size ≡ range_in word)
+      × (first_id x ≡ first_id_of c)
+      × HasAllLogs (part_of v c.slot).logs c.first (log x)
+      × ((part_of v c.slot).hold ≡ None)
+
+  -- the exchange found the free word, which gave the Hold and the value, or another
+  abbrev pub IsLockedFrom : ℕ → ℕ → Standing E → TryLock T → Standing E → Type 0
+  IsLockedFrom slot word p (try.Locked c x) q = (c.slot ≡ slot) × IsLocked p.view word c x × (q ≡ with_view p (view_with_hold p.view c (log x)))
+  IsLockedFrom slot word p (try.Held w) q = ⊥
+  IsLockedFrom slot word p (try.Gone w) q = ⊥
+  IsLockedFrom slot word p try.NoSlot q = ⊥
+  IsLockedFrom slot word p (try.Again old found) q = (old ≡ word) × (found ≢ word) × (q ≡ with_view p (view_after_load p.view slot found))
+
+  -- `try_lock`
+  abbrev pub IsTried : ℕ → ℕ → Standing E → TryLock T → Standing E → Type 0
+  IsTried slots id p (try.Locked c x) q = IsSlotOf slots id c.slot
+      × ((word : ℕ)
+      × IsFreeFor word id
+      × IsLocked p.view word c x
+      × (q ≡ with_view p (view_with_hold (view_after_load p.view c.slot word) c (log x))))
+  IsTried slots id p (try.Held word) q = (slot : ℕ) × IsSlotOf slots id slot × IsHeldFor word id × (q ≡ with_view p (view_after_load p.view slot word))
+  IsTried slots id p (try.Gone word) q = (slot : ℕ) × IsSlotOf slots id slot × (gone_by word id ≡ true)
+      × (q ≡ with_view p (view_after_load p.view slot word))
+  IsTried slots id p try.NoSlot q = HasNoSlot slots id × (q ≡ p)
+  IsTried slots id p (try.Again word found) q = (slot : ℕ)
+      × IsSlotOf slots id slot
+      × IsFreeFor word id
+      × (found ≢ word)
+      × (q ≡ with_view p (view_after_load (view_after_load p.view slot word) slot found))
+
+  -- `lock`, after loads of the id's slot that found these words
+  abbrev pub IsLockEnd : ℕ → ℕ → Standing E → LockEnd T → Standing E → Type 0
+  IsLockEnd slots id p (lock.Locked c x) q = IsSlotOf slots id c.slot
+      × ((words : List ℕ)
+      × ((word : ℕ)
+      × IsFreeFor word id
+      × IsLocked p.view word c x
+      × (q ≡ with_view p (view_with_hold (view_after_loads p.view (words_of c.slot (words ++ word ∷ []))) c (log x)))))
+  IsLockEnd slots id p (lock.Gone word) q = (slot : ℕ)
+      × IsSlotOf slots id slot
+      × (gone_by word id ≡ true)
+      × ((words : List ℕ) × (q ≡ with_view p (view_after_loads p.view (words_of slot (words ++ word ∷ [])))))
+  IsLockEnd slots id p lock.NoSlot q = HasNoSlot slots id × (q ≡ p)
+
+  -- the value is the range's last one, with a log no older than any that the pass knows
+  abbrev pub IsLastValue : View E → Claim → T → Type 0
+  IsLastValue v c x = (first_id x ≡ first_id_of c) × HasAllLogs (part_of v c.slot).logs c.first (log x)
+
+  -- `collect`
+  abbrev pub IsCollected : Claim → Standing E → CollectEnd T → Standing E → Type 0
+  IsCollected c p (collect.Value x) q = IsLastValue p.view c x × (q ≡ with_view p (view_after_collect p.view c (log x)))
+  IsCollected c p (collect.NotYet same word) q = (same ≡ c)
+      × (word ≢ packed_word c.first c.size 4 0)
+      × (q ≡ with_view p (view_after_load p.view c.slot word))
+
+module _ {T E : Type 0} (log : T → List E) (first_id : T → ℕ) where
+  -- `join`, after loads of the owner's slot that found these words
+  abbrev pub IsJoined : Claim → Standing E → T → Standing E → Type 0
+  IsJoined c p x q = IsLastValue log first_id p.view c x
+      × ((words : List ℕ) × (q ≡ with_view p (view_after_collect (view_after_loads p.view (words_of c.slot words)) c (log x))))
+
+-- `join_seen`, after loads of the id's slot that found these words
+abbrev pub IsJoinSeen : {E : Type 0} → ℕ → ℕ → Standing E → Option ℕ → Standing E → Type 0
+IsJoinSeen slots id p (Some word) q = (slot : ℕ)
+    × IsSlotOf slots id slot
+    × (gone_by word id ≡ true)
+    × ((words : List ℕ) × (q ≡ with_view p (view_after_loads p.view (words_of slot (words ++ word ∷ [])))))
+IsJoinSeen slots id p None q = HasNoSlot slots id × (q ≡ p)
+
+-- the answer is Gone
+abbrev pub IsGone : {T : Type 0} → TryLock T → Type 0
+IsGone (try.Locked c x) = ⊥
+IsGone (try.Held word) = ⊥
+IsGone (try.Gone word) = Unit {0}
+IsGone try.NoSlot = ⊥
+IsGone (try.Again word found) = ⊥
+
+-- the answer is Gone
+abbrev pub IsGoneEnd : {T : Type 0} → LockEnd T → Type 0
+IsGoneEnd (lock.Locked c x) = ⊥
+IsGoneEnd (lock.Gone word) = Unit {0}
+IsGoneEnd lock.NoSlot = ⊥
+
+-- the id names a slot of the table, and the pass has seen its version end
+abbrev pub HasSeenEnd : {E : Type 0} → ℕ → ℕ → Standing E → Type 0
+HasSeenEnd slots id p = (slot : ℕ) × IsSlotOf slots id slot × (ids.version_of id < (part_of p.view slot).ended_below)
+
+module _ {E : Type 0} (rec : E → Option Receipt) where
+  -- the log begins with the log at the lock, and has each receipt that was handed out since, once
+  abbrev pub HasGrown : Standing E → Claim → List E → Type 0
+  HasGrown p c log = (l : List E) → (part_of p.view c.slot).turn ≡ Some l → IsGrown rec l log (part_of p.view c.slot).got
+
+  -- the log begins with the log at the lock; these receipts, handed out since, are what it leaves out of them
+  abbrev pub HasGrownWithout : Standing E → Claim → List E → List Receipt → Type 0
+  HasGrownWithout p c log out = (l : List E) → (part_of p.view c.slot).turn ≡ Some l → IsGrownWithout rec l log (part_of p.view c.slot).got out

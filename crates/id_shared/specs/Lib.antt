@@ -1,0 +1,6 @@
+pub mod Answers
+pub mod Claims
+pub mod Opening
+pub mod Standing
+pub mod Steady
+pub mod Views

@@ -1,0 +1,39 @@
+-- A new table and its passes. This project's own choice.
+use Rattle.std.specs.Prelude.{◌≡◌, ℕ, ◌+◌, ◌*◌, List, [], ◌∷◌, ◌++◌, replicate, Some, None}
+use Rattle.id_rule.specs.declared.view.View.{View}
+use Rattle.id_shared.specs.Standing.{IdTable, Standing, IsPassOf}
+
+-- each slot is vacant with the next first version 1, and each node is free
+abbrev pub IsRow : ℕ → ℕ → List ℕ → Type 0
+IsRow slots nodes words = words ≡ replicate slots 1073741824 ++ replicate (2 * nodes) 0
+
+module _ {E : Type 0} where
+  -- the view of a new pass: its number, how many nodes it has, and nothing else
+  abbrev pub new_view : ℕ → ℕ → View E
+  new_view number nodes = record { numbers = number ∷ []; width = nodes; sent = 0; next = None; seen = []; parts = []; hand = None; taken = [] }
+
+  -- the view of the first pass, from which the one with this number is split next
+  abbrev pub root_view : ℕ → ℕ → View E
+  root_view number nodes = record { numbers = 0 ∷ []; width = nodes; sent = 0; next = Some number; seen = []; parts = []; hand = None; taken = [] }
+
+  -- the pass has this number and knows and has nothing else
+  abbrev pub IsNewPass : IdTable → ℕ → Standing E → Type 0
+  IsNewPass ids number p = p ≡ record { table = ids.table; view = new_view number ids.sizes.nodes; words = [] }
+
+  -- the first pass, which hands out this number next
+  abbrev pub IsRoot : IdTable → ℕ → Standing E → Type 0
+  IsRoot ids number p = p ≡ record { table = ids.table; view = root_view number ids.sizes.nodes; words = [] }
+
+  -- the pass has this number, and has and knows nothing of any slot
+  abbrev pub IsOpened : IdTable → ℕ → Standing E → Type 0
+  IsOpened ids number p = IsPassOf ids p
+      × (p.view.numbers ≡ number ∷ [])
+      × (p.view.sent ≡ 0)
+      × (p.view.seen ≡ [])
+      × (p.view.parts ≡ [])
+      × (p.words ≡ [])
+
+  -- the passes stand in the order of their numbers
+  abbrev pub AreOpened : IdTable → ℕ → List (Standing E) → Type 0
+  AreOpened ids number [] = Unit {0}
+  AreOpened ids number (p ∷ ps) = IsOpened ids number p × AreOpened ids (number + 1) ps

@@ -1,0 +1,31 @@
+//! Ids that threads share, after brpc's bthread_id: a range of ids names one value, which one pass at a time can lock,
+//! whatever the order of the threads' atomic steps.
+//!
+//! `Ids` is the table, and a `Pass` is one thread's way to it. A Spot is a slot that is reserved, a Hold a range that is
+//! locked, an Owner a range whose value will be collected; each has to be spent. Only `open` takes memory, and only the
+//! calls with an `rt` wait.
+#![tactic(auto)]
+
+mod answers;
+mod claims;
+mod ending;
+pub mod halves;
+mod ids;
+mod locking;
+mod opening;
+mod pass;
+mod reserving;
+mod waiting;
+
+pub use answers::{CollectEnd, LockEnd, Reserve, TryLock, UnlockEnd};
+pub use claims::{Hold, Owner, Spot};
+pub use id_rule::{Receipt, Tenant};
+pub use ids::Ids;
+pub use pass::Pass;
+
+#[cfg(test)]
+mod race_tests;
+#[cfg(test)]
+mod tests;
+#[cfg(test)]
+mod thread_tests;

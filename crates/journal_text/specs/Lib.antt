@@ -1,0 +1,5 @@
+pub mod Drafts
+pub mod Empty
+pub mod Judging
+pub mod Reading
+pub mod Writing
