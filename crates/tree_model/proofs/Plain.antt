@@ -22,7 +22,8 @@ use Rattle.rpc_model.specs.Machine as plain_machine
 use Rattle.rpc_model.specs.Marks as plain_marks
 use Rattle.rpc_model.specs.Told as plain_told
 use Rattle.rpc_model.specs.Early.{IsSparse, AreSparse}
-use Rattle.rpc_model.proofs.Early.{least-length, taken-waits, after-sparse}
+use Rattle.rpc_model.proofs.Early.{after-sparse}
+use Rattle.rpc_model.proofs.Weaves.{least-length, taken-waits}
 use Rattle.tree_model.specs.declared.kinds.MapKind.{MapKind}
 use Rattle.tree_model.specs.declared.kinds.MergeKind.{MergeKind}
 use Rattle.tree_model.specs.declared.chan.Chan.{Chan}
