@@ -338,17 +338,3 @@ module _ {M G : Type 0} (kinds : Kinds M G) where
       subst (λ o. let now = (par_run node rule.timeout m lim rule.merges (par_started plans below o)).state in AreDone lim rule.merges (newly 0 (waiting_states plans) (children now) []) now)
       (sym none)
       (record { same_limits = refl; same_merges = refl; by_index = sym h.by_index; judgement = h.judgement })
-
-  -- ---- the other ends
-
-  -- An open node whose deadline comes has the end of its completions at the deadline.
-  pub deadline-judged : (lim : Limits) (merges : List G) (done : List (ℕ × End)) (node : ℕ) (par : Par G) (states : States M G) (call : ℕ) (e : Event) (m : ℕ) → IsJudged lim merges done par states
-      → par.end ≡ None → (node_of e == node) ≡ true
-      → is_deadline e ≡ true → end_of (step_at kinds node (par_state par states) call e m).state ≡ Some (par_deadline kinds lim merges (ends_from 0 (length merges) done))
-  deadline-judged lim merges done node par states call e m j none here deadline =
-      ap (λ o. end_of (while_open o (par_state par states) (cond (node_of e == node) (par_at kinds par states e) (par_stepped kinds par (step_subs kinds (node + 1) states call e m)))).state) none
-      ∙ ap (λ v. end_of (cond v (par_at kinds par states e) (par_stepped kinds par (step_subs kinds (node + 1) states call e m))).state) here
-      ∙ ap (λ v. end_of (par_state (cond v (record par { end = Some (par_deadline kinds par.limits par.merges (ends_of states)) }) par) states)) deadline
-      ∙ ap (λ l. Some (par_deadline kinds l par.merges (ends_of states))) j.same_limits
-      ∙ ap (λ ms. Some (par_deadline kinds lim ms (ends_of states))) j.same_merges
-      ∙ ap (λ os. Some (par_deadline kinds lim merges os)) j.by_index

@@ -13,6 +13,7 @@ use Rattle.tree_model.specs.Machine.{par_run, par_started, start_at, start_subs,
 use Rattle.tree_model.specs.Paths.{children, node_at}
 use Rattle.tree_model.specs.Completions.{newly, newly_at, children_at, count_of, completions_from, completions, EndsBy, StandsBy, NodeStandsBy, ParallelNodesStandByCompletions}
 use Rattle.tree_model.proofs.Ended.{node-ended}
+use Rattle.tree_model.proofs.Even.{plan-even, node-even}
 use Rattle.tree_model.proofs.Completions.{IsJudged, AreDone, newly-same, step-judged, start-judged, ends-waiting}
 use Rattle.tree_model.proofs.Paths.{NodeMoved, AtMoved, step-moved, start-moved}
 
@@ -191,4 +192,5 @@ module _ {M G : Type 0} (kinds : Kinds M G) (path : List ℕ) (rule : Rule M G) 
 
 module _ {M G : Type 0} (kinds : Kinds M G) where
   pub parallel-nodes : ParallelNodesStandByCompletions kinds
-  parallel-nodes path plan rule plans call request begun events is counts = node-stands kinds path rule plans plan call request begun events is counts
+  parallel-nodes chans number call p path rule plans request begun events planned is =
+      node-stands kinds path rule plans p call request begun events is (node-even path p rule plans (plan-even chans number call p planned) is)
