@@ -45,8 +45,10 @@ module _ {M G : Type 0} (kinds : Kinds M G) where
     now : ends_of below.states ≡ xs ++ Some end ∷ zs
     adds : newly k states below.states done ≡ (k + length xs, end) ∷ done
 
-  sub-new : (k : ℕ) (s : State M G) (run : Run M G) (states : States M G) (done : List (ℕ × End)) (o p : Option End) → end_of s ≡ o → end_of run.state ≡ p → ((end : End) → end_of s ≡ Some end → run.state ≡ s)
-      → Unchanged k (state_then s states) (run_beside run states (new_end (end_of s) (end_of run.state))) done ⊎ OneMore k (state_then s states) (run_beside run states (new_end (end_of s) (end_of run.state))) done
+  sub-new : (k : ℕ) (s : State M G) (run : Run M G) (states : States M G) (done : List (ℕ × End)) (o p : Option End) → end_of s ≡ o → end_of run.state ≡ p
+      → ((end : End) → end_of s ≡ Some end → run.state ≡ s)
+      → Unchanged k (state_then s states) (run_beside run states (new_end (end_of s) (end_of run.state))) done ⊎ OneMore k (state_then s states)
+      (run_beside run states (new_end (end_of s) (end_of run.state))) done
   sub-new k s run states done (Some end) p ho hp stays =
       let none : new_end (end_of s) (end_of run.state) ≡ None = ap (λ o. new_end o (end_of run.state)) ho in
       inl (record {
@@ -95,14 +97,18 @@ module _ {M G : Type 0} (kinds : Kinds M G) where
       })
 
   -- A step ends at most one sub, and brings the node that one's end.
-  step-new : (k node : ℕ) (states : States M G) (call : ℕ) (e : Event) (m : ℕ) (done : List (ℕ × End)) → Unchanged k states (step_subs kinds node states call e m) done ⊎ OneMore k states (step_subs kinds node states call e m) done
+  step-new : (k node : ℕ) (states : States M G) (call : ℕ) (e : Event) (m : ℕ) (done : List (ℕ × End)) → Unchanged k states (step_subs kinds node states call e m) done
+      ⊎ OneMore k states (step_subs kinds node states call e m) done
   step-new k node last_state call e m done = inl (record { up = refl; ends = refl; adds = refl })
   step-new k node (state_then s states) call e m done = by (nat_lt (node_of e) (node + size s)) (step-new (k + 1) (node + size s) states call e m done)
     where
       by : (v : Bool) → Unchanged (k + 1) states (step_subs kinds (node + size s) states call e m) done ⊎ OneMore (k + 1) states (step_subs kinds (node + size s) states call e m) done
-          → Unchanged k (state_then s states) (cond v (run_beside (step_at kinds node s call e m) states (new_end (end_of s) (end_of (step_at kinds node s call e m).state))) (beside s (step_subs kinds (node + size s) states call e m))) done
-          ⊎ OneMore k (state_then s states) (cond v (run_beside (step_at kinds node s call e m) states (new_end (end_of s) (end_of (step_at kinds node s call e m).state))) (beside s (step_subs kinds (node + size s) states call e m))) done
-      by true h = sub-new k s (step_at kinds node s call e m) states done (end_of s) (end_of (step_at kinds node s call e m).state) refl refl (λ end ended. node-ended kinds node s call e m end ended)
+          → Unchanged k (state_then s states) (cond v (run_beside (step_at kinds node s call e m) states (new_end (end_of s) (end_of (step_at kinds node s call e m).state)))
+          (beside s (step_subs kinds (node + size s) states call e m))) done
+          ⊎ OneMore k (state_then s states) (cond v (run_beside (step_at kinds node s call e m) states (new_end (end_of s) (end_of (step_at kinds node s call e m).state)))
+          (beside s (step_subs kinds (node + size s) states call e m))) done
+      by true h = sub-new k s (step_at kinds node s call e m) states done (end_of s) (end_of (step_at kinds node s call e m).state) refl refl
+          (λ end ended. node-ended kinds node s call e m end ended)
       by false h = beside-new k s states (step_subs kinds (node + size s) states call e m) done h
 
   -- ---- the ends by index after one more completion
@@ -145,7 +151,8 @@ module _ {M G : Type 0} (kinds : Kinds M G) where
   AreDone lim merges done (sel_state sel states) = ⊥
 
   stepped-judged : (lim : Limits) (merges : List G) (done : List (ℕ × End)) (par : Par G) (states : States M G) (below : Below M G) → par.end ≡ None → IsJudged lim merges done par states
-      → Unchanged 0 states below done ⊎ OneMore 0 states below done → IsJudged lim merges (newly 0 states below.states done) (record par { end = where_ended below.end (judged kinds par.limits par.merges (ends_of below.states)) }) below.states
+      → Unchanged 0 states below done ⊎ OneMore 0 states below done → IsJudged lim merges (newly 0 states below.states done)
+      (record par { end = where_ended below.end (judged kinds par.limits par.merges (ends_of below.states)) }) below.states
   stepped-judged lim merges done par states below open_ j (inl h) =
       subst (λ ds. IsJudged lim merges ds (record par { end = where_ended below.end (judged kinds par.limits par.merges (ends_of below.states)) }) below.states) (sym h.adds)
       (record {
@@ -174,20 +181,24 @@ module _ {M G : Type 0} (kinds : Kinds M G) where
   abbrev pub Goes : Limits → List G → List (ℕ × End) → States M G → Run M G → Type 0
   Goes lim merges done states run = AreDone lim merges (newly 0 states (children run.state) done) run.state
 
-  goes-quiet : (lim : Limits) (merges : List G) (done : List (ℕ × End)) (par : Par G) (states : States M G) → IsJudged lim merges done par states → Goes lim merges done states (quiet (par_state par states))
+  goes-quiet : (lim : Limits) (merges : List G) (done : List (ℕ × End)) (par : Par G) (states : States M G) → IsJudged lim merges done par states
+      → Goes lim merges done states (quiet (par_state par states))
   goes-quiet lim merges done par states j = subst (λ ds. IsJudged lim merges ds par states) (sym (newly-same 0 states done)) j
 
   pub step-judged : (lim : Limits) (merges : List G) (done : List (ℕ × End)) (node : ℕ) (par : Par G) (states : States M G) (call : ℕ) (e : Event) (m : ℕ) → IsJudged lim merges done par states
       → ((node_of e == node) ≡ true → is_deadline e ≡ false) → Goes lim merges done states (step_at kinds node (par_state par states) call e m)
   step-judged lim merges done node par states call e m j no_deadline = open_or par.end refl
     where
-      at : (v : Bool) → (node_of e == node) ≡ v → par.end ≡ None → Goes lim merges done states (cond v (par_at kinds par states e) (par_stepped kinds par (step_subs kinds (node + 1) states call e m)))
+      at : (v : Bool) → (node_of e == node) ≡ v → par.end ≡ None
+          → Goes lim merges done states (cond v (par_at kinds par states e) (par_stepped kinds par (step_subs kinds (node + 1) states call e m)))
       at true h none =
-          let same : cond (is_deadline e) (record par { end = Some (par_deadline kinds par.limits par.merges (ends_of states)) }) par ≡ par = ap (λ v. cond v (record par { end = Some (par_deadline kinds par.limits par.merges (ends_of states)) }) par) (no_deadline h) in
+          let same : cond (is_deadline e) (record par { end = Some (par_deadline kinds par.limits par.merges (ends_of states)) }) par ≡ par = ap
+          (λ v. cond v (record par { end = Some (par_deadline kinds par.limits par.merges (ends_of states)) }) par) (no_deadline h) in
           subst (λ (p : Par G). Goes lim merges done states (quiet (par_state p states))) (sym same) (goes-quiet lim merges done par states j)
       at false h none = stepped-judged lim merges done par states (step_subs kinds (node + 1) states call e m) none j (step-new 0 (node + 1) states call e m done)
 
-      open_or : (o : Option End) → par.end ≡ o → Goes lim merges done states (while_open o (par_state par states) (cond (node_of e == node) (par_at kinds par states e) (par_stepped kinds par (step_subs kinds (node + 1) states call e m))))
+      open_or : (o : Option End) → par.end ≡ o
+          → Goes lim merges done states (while_open o (par_state par states) (cond (node_of e == node) (par_at kinds par states e) (par_stepped kinds par (step_subs kinds (node + 1) states call e m))))
       open_or None h = at (node_of e == node) refl h
       open_or (Some end) h = goes-quiet lim merges done par states j
 
@@ -229,9 +240,12 @@ module _ {M G : Type 0} (kinds : Kinds M G) where
   unfolding judgement_of
   judged-waiting lim merges xs plans =
       let ys = xs ++ ends_of (waiting_states plans) in
-      let a : judgement_of lim (bads ys) (goods ys) (parts_of merges ys) ≡ judgement_of lim (bads xs) (goods ys) (parts_of merges ys) = ap (λ n. judgement_of lim n (goods ys) (parts_of merges ys)) (bads-waiting xs plans) in
-      let b : judgement_of lim (bads xs) (goods ys) (parts_of merges ys) ≡ judgement_of lim (bads xs) (goods xs) (parts_of merges ys) = ap (λ n. judgement_of lim (bads xs) n (parts_of merges ys)) (goods-waiting xs plans) in
-      let c : judgement_of lim (bads xs) (goods xs) (parts_of merges ys) ≡ judgement_of lim (bads xs) (goods xs) (parts_of merges xs) = ap (judgement_of lim (bads xs) (goods xs)) (parts-waiting 0 merges xs plans) in
+      let a : judgement_of lim (bads ys) (goods ys) (parts_of merges ys) ≡ judgement_of lim (bads xs) (goods ys) (parts_of merges ys) = ap (λ n. judgement_of lim n (goods ys) (parts_of merges ys))
+      (bads-waiting xs plans) in
+      let b : judgement_of lim (bads xs) (goods ys) (parts_of merges ys) ≡ judgement_of lim (bads xs) (goods xs) (parts_of merges ys) = ap (λ n. judgement_of lim (bads xs) n (parts_of merges ys))
+      (goods-waiting xs plans) in
+      let c : judgement_of lim (bads xs) (goods xs) (parts_of merges ys) ≡ judgement_of lim (bads xs) (goods xs) (parts_of merges xs) = ap (judgement_of lim (bads xs) (goods xs))
+      (parts-waiting 0 merges xs plans) in
       a ∙ b ∙ c
 
   -- Behind subs with these ends, those that were started give the completions, and the end that they bring the node.
@@ -252,7 +266,8 @@ module _ {M G : Type 0} (kinds : Kinds M G) where
 
   -- the sub behind those with these ends has this end or none at its start
   one-ended : (lim : Limits) (merges : List G) (ends : List (Option End)) (done : List (ℕ × End)) (o : Option End) (plans : Plans M G)
-      → ends_from 0 (length merges) done ≡ ends ++ None ∷ ends_of (waiting_states plans) → ends_from 0 (length merges) (and_done (length ends) o done) ≡ (ends ++ o ∷ []) ++ ends_of (waiting_states plans)
+      → ends_from 0 (length merges) done ≡ ends ++ None ∷ ends_of (waiting_states plans) → ends_from 0 (length merges) (and_done (length ends) o done) ≡ (ends ++ o ∷ []) ++ ends_of
+      (waiting_states plans)
   one-ended lim merges ends done None plans h = h ∙ sym (append_assoc ends (None ∷ []) (ends_of (waiting_states plans)))
   one-ended lim merges ends done (Some end) plans h =
       ends-set 0 (length merges) (length ends) end done ends (ends_of (waiting_states plans)) None (omega arith) h ∙ sym (append_assoc ends (Some end ∷ []) (ends_of (waiting_states plans)))
@@ -262,12 +277,14 @@ module _ {M G : Type 0} (kinds : Kinds M G) where
       → par_end kinds lim merges (and_done (length ends) o done) ≡ where_ended o (judged kinds lim merges (ends ++ o ∷ []))
   one-judged lim merges ends done None plans h none = none
   one-judged lim merges ends done (Some end) plans h none =
-      ap (λ o. or_else o (judged kinds lim merges (ends_from 0 (length merges) ((length ends, end) ∷ done)))) none ∙ ap (judged kinds lim merges) h ∙ judged-waiting lim merges (ends ++ Some end ∷ []) plans
+      ap (λ o. or_else o (judged kinds lim merges (ends_from 0 (length merges) ((length ends, end) ∷ done)))) none ∙ ap (judged kinds lim merges) h ∙ judged-waiting lim merges
+      (ends ++ Some end ∷ []) plans
 
   started-sub : (lim : Limits) (merges : List G) (ends : List (Option End)) (run : Run M G) (plan : Plan M G) (plans : Plans M G) (next : Below M G) (up : Option End) (done : List (ℕ × End))
       → ends_from 0 (length merges) (and_done (length ends) (end_of run.state) done) ≡ (ends ++ end_of run.state ∷ []) ++ ends_of (waiting_states plans)
       → par_end kinds lim merges (and_done (length ends) (end_of run.state) done) ≡ up
-      → (par_end kinds lim merges (and_done (length ends) (end_of run.state) done) ≡ None → IsStarted lim merges (ends ++ end_of run.state ∷ []) (waiting_states plans) next.states next.end (and_done (length ends) (end_of run.state) done))
+      → (par_end kinds lim merges (and_done (length ends) (end_of run.state) done) ≡ None → IsStarted lim merges (ends ++ end_of run.state ∷ []) (waiting_states plans) next.states next.end
+      (and_done (length ends) (end_of run.state) done))
       → IsStarted lim merges ends (state_then (waits plan) (waiting_states plans)) (sub_started run plans next up).states (sub_started run plans next up).end done
   started-sub lim merges ends run plan plans next None done h e again = started-then lim merges ends (waits plan) run.state (waiting_states plans) next.states next.end done (again e)
   started-sub lim merges ends run plan plans next (Some end) done h e again =
@@ -286,7 +303,8 @@ module _ {M G : Type 0} (kinds : Kinds M G) where
       let d = and_done (length ends) (end_of run.state) done in
       let by_index = one-ended lim merges ends done (end_of run.state) plans h in
       let one = one-judged lim merges ends done (end_of run.state) plans by_index none in
-      started-sub lim merges ends run plan plans (start_subs kinds (node + nodes plan) plans call asked lim merges m now) (where_ended (end_of run.state) (judged kinds lim merges now)) done by_index one
+      started-sub lim merges ends run plan plans (start_subs kinds (node + nodes plan) plans call asked lim merges m now)
+      (where_ended (end_of run.state) (judged kinds lim merges now)) done by_index one
       (λ n. start-subs lim merges (node + nodes plan) plans call asked m now d by_index n)
   start-subs lim merges node (plan_then plan plans) call (answer.Skip ∷ asked) m ends done h none =
       let more = start_subs kinds (node + nodes plan) plans call asked lim merges m (ends ++ None ∷ []) in
@@ -308,7 +326,8 @@ module _ {M G : Type 0} (kinds : Kinds M G) where
   ends-waiting j (suc n) (plan_then plan plans) h = ap (λ os. None ∷ os) (ends-waiting (j + 1) n plans (omega (arith, h)))
 
   -- A parallel node that starts its subs has the end of their completions.
-  pub start-judged : (node : ℕ) (rule : Rule M G) (plans : Plans M G) (call : ℕ) (request : List ℕ) (m : ℕ) → count_of plans ≡ length rule.merges → refused (mapped kinds.map rule.maps request) ≡ None
+  pub start-judged : (node : ℕ) (rule : Rule M G) (plans : Plans M G) (call : ℕ) (request : List ℕ) (m : ℕ) → count_of plans ≡ length rule.merges → refused (mapped kinds.map rule.maps request)
+      ≡ None
       → let now = (start_at kinds node (par_plan rule plans) call request m).state in
       AreDone (limits rule (mapped kinds.map rule.maps request)) rule.merges (newly 0 (waiting_states plans) (children now) []) now
   start-judged node rule plans call request m counts none =
@@ -316,18 +335,6 @@ module _ {M G : Type 0} (kinds : Kinds M G) where
       let lim = limits rule asked in
       let below = start_subs kinds (node + 1) plans call asked lim rule.merges m [] in
       let h = start-subs lim rule.merges (node + 1) plans call asked m [] [] (ends-waiting 0 (length rule.merges) plans counts) refl in
-      subst (λ o. let now = (par_run node rule.timeout m lim rule.merges (par_started plans below o)).state in AreDone lim rule.merges (newly 0 (waiting_states plans) (children now) []) now) (sym none)
+      subst (λ o. let now = (par_run node rule.timeout m lim rule.merges (par_started plans below o)).state in AreDone lim rule.merges (newly 0 (waiting_states plans) (children now) []) now)
+      (sym none)
       (record { same_limits = refl; same_merges = refl; by_index = sym h.by_index; judgement = h.judgement })
-
-  -- ---- the other ends
-
-  -- An open node whose deadline comes has the end of its completions at the deadline.
-  pub deadline-judged : (lim : Limits) (merges : List G) (done : List (ℕ × End)) (node : ℕ) (par : Par G) (states : States M G) (call : ℕ) (e : Event) (m : ℕ) → IsJudged lim merges done par states → par.end ≡ None → (node_of e == node) ≡ true
-      → is_deadline e ≡ true → end_of (step_at kinds node (par_state par states) call e m).state ≡ Some (par_deadline kinds lim merges (ends_from 0 (length merges) done))
-  deadline-judged lim merges done node par states call e m j none here deadline =
-      ap (λ o. end_of (while_open o (par_state par states) (cond (node_of e == node) (par_at kinds par states e) (par_stepped kinds par (step_subs kinds (node + 1) states call e m)))).state) none
-      ∙ ap (λ v. end_of (cond v (par_at kinds par states e) (par_stepped kinds par (step_subs kinds (node + 1) states call e m))).state) here
-      ∙ ap (λ v. end_of (par_state (cond v (record par { end = Some (par_deadline kinds par.limits par.merges (ends_of states)) }) par) states)) deadline
-      ∙ ap (λ l. Some (par_deadline kinds l par.merges (ends_of states))) j.same_limits
-      ∙ ap (λ ms. Some (par_deadline kinds lim ms (ends_of states))) j.same_merges
-      ∙ ap (λ os. Some (par_deadline kinds lim merges os)) j.by_index

@@ -67,14 +67,16 @@ weave-idle zero moment b e = refl
 weave-idle (suc n) moment b e = ap (weave_least (weave_at_most n moment) moment b) e
 
 -- what a weave does that meets this mark
-pub weave-meets : (n moment : ℕ) (b : Begun) (mark : Mark) (others : List Mark) → least_mark b.waiting ≡ Some (mark, others) → weave_at_most (suc n) moment b ≡ cond (nat_le mark.moment moment) (weave_at_most n moment (take_mark b mark others)) b
+pub weave-meets : (n moment : ℕ) (b : Begun) (mark : Mark) (others : List Mark) → least_mark b.waiting ≡ Some (mark, others) → weave_at_most (suc n) moment b
+    ≡ cond (nat_le mark.moment moment) (weave_at_most n moment (take_mark b mark others)) b
 weave-meets n moment b mark others e = ap (weave_least (weave_at_most n moment) moment b) e
 
 either : {X : Type 0} (v : Bool) (x y z : X) → x ≡ y → cond v x z ≡ cond v y z
 either true x y z same = same
 either false x y z same = refl
 
-weave-step : (n k moment : ℕ) (b : Begun) (o : Option (Mark × List Mark)) → least_mark b.waiting ≡ o → ((d : Begun) → marks_left d ≤ n → marks_left d ≤ k → weave_at_most n moment d ≡ weave_at_most k moment d)
+weave-step : (n k moment : ℕ) (b : Begun) (o : Option (Mark × List Mark)) → least_mark b.waiting ≡ o
+    → ((d : Begun) → marks_left d ≤ n → marks_left d ≤ k → weave_at_most n moment d ≡ weave_at_most k moment d)
     → marks_left b ≤ suc n → marks_left b ≤ suc k → weave_at_most (suc n) moment b ≡ weave_at_most (suc k) moment b
 weave-step n k moment b None e again hn hk = weave-idle (suc n) moment b e ∙ sym (weave-idle (suc k) moment b e)
 weave-step n k moment b (Some (mark, others)) e again hn hk =
@@ -98,7 +100,8 @@ fewer-due : (k r : ℕ) (b : Begun) (mark : Mark) (others : List Mark) (v : Bool
 fewer-due k r b mark others true h = h
 fewer-due k r b mark others false h = omega arith
 
-fewer-step : (k r : ℕ) (b : Begun) (o : Option (Mark × List Mark)) → least_mark b.waiting ≡ o → ((d : Begun) → marks_left (weave_at_most k r d) ≤ marks_left d) → marks_left (weave_at_most (suc k) r b) ≤ marks_left b
+fewer-step : (k r : ℕ) (b : Begun) (o : Option (Mark × List Mark)) → least_mark b.waiting ≡ o → ((d : Begun) → marks_left (weave_at_most k r d) ≤ marks_left d)
+    → marks_left (weave_at_most (suc k) r b) ≤ marks_left b
 fewer-step k r b None e again = let same = ap (λ (d : Begun). marks_left d) (weave-idle (suc k) r b e) in omega (arith, same)
 fewer-step k r b (Some (mark, others)) e again =
     let left = taken-left b mark others e in
@@ -113,7 +116,8 @@ weave-fewer (suc k) r b = fewer-step k r b (least_mark b.waiting) refl (λ d. we
 LaterIs : ℕ → ℕ → ℕ → ℕ → ℕ → Begun → Type 0
 LaterIs k n j r m b = marks_left b ≤ j → marks_left (weave_at_most k r b) ≤ n → weave_at_most n m (weave_at_most k r b) ≡ weave_at_most j m b
 
-later-due : (k n j r m : ℕ) (b : Begun) (mark : Mark) (others : List Mark) (v : Bool) → nat_le mark.moment r ≡ v → least_mark b.waiting ≡ Some (mark, others) → r ≤ m → LaterIs k n j r m (take_mark b mark others) → LaterIs (suc k) n (suc j) r m b
+later-due : (k n j r m : ℕ) (b : Begun) (mark : Mark) (others : List Mark) (v : Bool) → nat_le mark.moment r ≡ v → least_mark b.waiting ≡ Some (mark, others) → r ≤ m
+    → LaterIs k n j r m (take_mark b mark others) → LaterIs (suc k) n (suc j) r m b
 unfolding LaterIs
 later-due k n j r m b mark others true due e le again hj hn =
     let t = take_mark b mark others in
@@ -146,7 +150,8 @@ weave-call (suc k) r b = call-step k r b (least_mark b.waiting) (λ d. weave-cal
   where
     call-step : (k r : ℕ) (b : Begun) (o : Option (Mark × List Mark)) → ((d : Begun) → (weave_at_most k r d).call ≡ d.call) → (weave_least (weave_at_most k r) r b o).call ≡ b.call
     call-step k r b None again = refl
-    call-step k r b (Some (mark, others)) again = elim (nat_le mark.moment r) as (λ v. (cond v (weave_at_most k r (take_mark b mark others)) b).call ≡ b.call) [ true ↦ again (take_mark b mark others) | false ↦ refl ]
+    call-step k r b (Some (mark, others)) again = elim (nat_le mark.moment r) as
+        (λ v. (cond v (weave_at_most k r (take_mark b mark others)) b).call ≡ b.call) [ true ↦ again (take_mark b mark others) | false ↦ refl ]
 
 -- ---- a finish after a weave
 
@@ -167,7 +172,8 @@ finish-meets : (n r : ℕ) (b : Begun) (mark : Mark) (others : List Mark) → is
     → finish_at_most (suc n) r b ≡ finish_at_most n (max r mark.moment) (take_mark b mark others)
 finish-meets n r b mark others open_ e = ap (λ v. cond v (r, b) (finish_least (finish_at_most n) r b (least_mark b.waiting))) open_ ∙ ap (finish_least (finish_at_most n) r b) e
 
-finish-step : (n k r : ℕ) (b : Begun) (v : Bool) (o : Option (Mark × List Mark)) → is_some (end_of b.state) ≡ v → least_mark b.waiting ≡ o → ((s : ℕ) (d : Begun) → marks_left d ≤ n → marks_left d ≤ k → finish_at_most n s d ≡ finish_at_most k s d)
+finish-step : (n k r : ℕ) (b : Begun) (v : Bool) (o : Option (Mark × List Mark)) → is_some (end_of b.state) ≡ v → least_mark b.waiting ≡ o
+    → ((s : ℕ) (d : Begun) → marks_left d ≤ n → marks_left d ≤ k → finish_at_most n s d ≡ finish_at_most k s d)
     → marks_left b ≤ suc n → marks_left b ≤ suc k → finish_at_most (suc n) r b ≡ finish_at_most (suc k) r b
 finish-step n k r b true o p e again hn hk = finish-ended (suc n) r b p ∙ sym (finish-ended (suc k) r b p)
 finish-step n k r b false None p e again hn hk = finish-idle (suc n) r b e ∙ sym (finish-idle (suc k) r b e)
@@ -187,11 +193,13 @@ some-end (Some end) e = (end, refl)
 taken-ended : (b : Begun) (mark : Mark) (others : List Mark) → is_some (end_of b.state) ≡ true → (take_mark b mark others).state ≡ b.state
 taken-ended b mark others h = let s = some-end (end_of b.state) h in step-ended script_kinds b.call b.state (mark_event mark.node mark.kind) mark.moment s.0 s.1
 
-ended-due : (k r : ℕ) (b : Begun) (mark : Mark) (others : List Mark) (v : Bool) → (weave_at_most k r (take_mark b mark others)).state ≡ b.state → (cond v (weave_at_most k r (take_mark b mark others)) b).state ≡ b.state
+ended-due : (k r : ℕ) (b : Begun) (mark : Mark) (others : List Mark) (v : Bool) → (weave_at_most k r (take_mark b mark others)).state ≡ b.state
+    → (cond v (weave_at_most k r (take_mark b mark others)) b).state ≡ b.state
 ended-due k r b mark others true h = h
 ended-due k r b mark others false h = refl
 
-ended-step : (k r : ℕ) (b : Begun) (o : Option (Mark × List Mark)) → least_mark b.waiting ≡ o → is_some (end_of b.state) ≡ true → ((d : Begun) → is_some (end_of d.state) ≡ true → (weave_at_most k r d).state ≡ d.state) → (weave_at_most (suc k) r b).state ≡ b.state
+ended-step : (k r : ℕ) (b : Begun) (o : Option (Mark × List Mark)) → least_mark b.waiting ≡ o → is_some (end_of b.state) ≡ true
+    → ((d : Begun) → is_some (end_of d.state) ≡ true → (weave_at_most k r d).state ≡ d.state) → (weave_at_most (suc k) r b).state ≡ b.state
 ended-step k r b None e h again = ap (λ (d : Begun). d.state) (weave-idle (suc k) r b e)
 ended-step k r b (Some (mark, others)) e h again =
     let t = take_mark b mark others in
@@ -224,7 +232,8 @@ finishes-ended k n j r b h =
     let a : Alike (r, w) (r, b) = record { moment = refl; call = weave-call k r b; state = same; open_ = λ no. absurd (let both = sym ended ∙ no in cc) } in
     subst (λ p. Alike p (finish_at_most j r b)) (sym (finish-ended n r w ended)) (subst (Alike (r, w)) (sym (finish-ended j r b h)) a)
 
-finishes-due : (k n j r : ℕ) (b : Begun) (mark : Mark) (others : List Mark) (v : Bool) → nat_le mark.moment r ≡ v → least_mark b.waiting ≡ Some (mark, others) → is_some (end_of b.state) ≡ false → FinishIs k n j r (take_mark b mark others) → FinishIs (suc k) n (suc j) r b
+finishes-due : (k n j r : ℕ) (b : Begun) (mark : Mark) (others : List Mark) (v : Bool) → nat_le mark.moment r ≡ v → least_mark b.waiting ≡ Some (mark, others) → is_some (end_of b.state) ≡ false
+    → FinishIs k n j r (take_mark b mark others) → FinishIs (suc k) n (suc j) r b
 unfolding FinishIs
 finishes-due k n j r b mark others true due e open_ again hj hn =
     let t = take_mark b mark others in
@@ -237,9 +246,11 @@ finishes-due k n j r b mark others true due e open_ again hj hn =
 finishes-due k n j r b mark others false due e open_ again hj hn =
     let t = take_mark b mark others in
     let same : weave_at_most (suc k) r b ≡ b = weave-meets k r b mark others e ∙ ap (λ v. cond v (weave_at_most k r t) b) due in
-    alike (finish_at_most n r (weave_at_most (suc k) r b)) (finish_at_most (suc j) r b) (ap (finish_at_most n r) same ∙ finish-fuel n (suc j) r b (subst (λ (d : Begun). marks_left d ≤ n) same hn) hj)
+    alike (finish_at_most n r (weave_at_most (suc k) r b)) (finish_at_most (suc j) r b)
+    (ap (finish_at_most n r) same ∙ finish-fuel n (suc j) r b (subst (λ (d : Begun). marks_left d ≤ n) same hn) hj)
 
-finishes-step : (k n j r : ℕ) (b : Begun) (v : Bool) (o : Option (Mark × List Mark)) → is_some (end_of b.state) ≡ v → least_mark b.waiting ≡ o → ((i : ℕ) (d : Begun) → FinishIs k n i r d) → FinishIs (suc k) n j r b
+finishes-step : (k n j r : ℕ) (b : Begun) (v : Bool) (o : Option (Mark × List Mark)) → is_some (end_of b.state) ≡ v → least_mark b.waiting ≡ o → ((i : ℕ) (d : Begun) → FinishIs k n i r d)
+    → FinishIs (suc k) n j r b
 unfolding FinishIs
 finishes-step k n j r b true o h e again hj hn = finishes-ended (suc k) n j r b h
 finishes-step k n j r b false None h e again hj hn =
@@ -261,7 +272,8 @@ weave-plan (suc k) r b = plan-step k r b (least_mark b.waiting) (λ d. weave-pla
   where
     plan-step : (k r : ℕ) (b : Begun) (o : Option (Mark × List Mark)) → ((d : Begun) → (weave_at_most k r d).plan ≡ d.plan) → (weave_least (weave_at_most k r) r b o).plan ≡ b.plan
     plan-step k r b None again = refl
-    plan-step k r b (Some (mark, others)) again = elim (nat_le mark.moment r) as (λ v. (cond v (weave_at_most k r (take_mark b mark others)) b).plan ≡ b.plan) [ true ↦ again (take_mark b mark others) | false ↦ refl ]
+    plan-step k r b (Some (mark, others)) again = elim (nat_le mark.moment r) as
+        (λ v. (cond v (weave_at_most k r (take_mark b mark others)) b).plan ≡ b.plan) [ true ↦ again (take_mark b mark others) | false ↦ refl ]
 
 -- To weave to a moment and then to a later one is to weave to the later one.
 pub weave-twice : (r m : ℕ) (b : Begun) → r ≤ m → weave m (weave r b) ≡ weave m b
@@ -317,7 +329,8 @@ count-more x xs = sum_by-cons (λ s. cond (is_begun s) 1 0) x xs
 pub count-settled : (r : ℕ) (xs : List Standing) → count_by is_begun (map (settle r) xs) ≡ count_by is_begun xs
 count-settled r [] = refl
 count-settled r (x ∷ xs) =
-    count-more (settle r x) (map (settle r) xs) ∙ ap (λ v. cond v 1 0 + count_by is_begun (map (settle r) xs)) (settle-begun r x) ∙ ap (λ n. cond (is_begun x) 1 0 + n) (count-settled r xs) ∙ sym (count-more x xs)
+    count-more (settle r x) (map (settle r) xs) ∙ ap (λ v. cond v 1 0 + count_by is_begun (map (settle r) xs)) (settle-begun r x) ∙ ap (λ n. cond (is_begun x) 1 0 + n) (count-settled r xs) ∙ sym
+    (count-more x xs)
 
 -- ---- what a call does that took its due marks
 
@@ -364,7 +377,8 @@ is-call-settled call r s = ap (λ n. n == call) (settle-number r s)
 
 pub event-line : (script : Script) (s : Replay) (m call : ℕ) (e : Event) → s.reached ≤ m → settled (call_event (settled s) m call e) ≡ settled (call_event s m call e)
 event-line script s m call e le =
-    ap (λ (ss : List Standing). record { reached = m; calls = ss }) (change-settled (is_call call) (event_after e m) s.reached m s.calls (λ x. is-call-settled call s.reached x) (λ x. event-settled e s.reached m x le) le)
+    ap (λ (ss : List Standing). record { reached = m; calls = ss }) (change-settled (is_call call) (event_after e m) s.reached m s.calls (λ x. is-call-settled call s.reached x)
+    (λ x. event-settled e s.reached m x le) le)
 
 -- A join never takes a moment back.
 pub finish-late : (n r : ℕ) (b : Begun) → r ≤ (finish_at_most n r b).0
@@ -386,14 +400,16 @@ join-line : (s : Replay) (call : ℕ) → settled (call_join (settled s) call) �
 join-line s call =
     let r = s.reached in
     let found : find (is_call call) (map (settle r) s.calls) ≡ option_map (settle r) (find (is_call call) s.calls) = find-settled (is_call call) r s.calls (λ x. is-call-settled call r x) in
-    let moment : joined_moment r (find (is_call call) (map (settle r) s.calls)) ≡ joined_moment r (find (is_call call) s.calls) = ap (joined_moment r) found ∙ moment-settled r (find (is_call call) s.calls) in
+    let moment : joined_moment r (find (is_call call) (map (settle r) s.calls)) ≡ joined_moment r (find (is_call call) s.calls) = ap (joined_moment r) found ∙ moment-settled r
+    (find (is_call call) s.calls) in
     let m = joined_moment r (find (is_call call) s.calls) in
     let calls : map (settle m) (change_first (is_call call) (joined r) (map (settle r) s.calls)) ≡ map (settle m) (change_first (is_call call) (joined r) s.calls) =
     change-settled (is_call call) (joined r) r m s.calls (λ x. is-call-settled call r x) (λ x. joined-settled r x) (joined-late r (find (is_call call) s.calls)) in
     ap (λ (k : ℕ). record { reached = k; calls = map (settle k) (change_first (is_call call) (joined r) (map (settle r) s.calls)) }) moment
     ∙ ap (λ (ss : List Standing). record { reached = m; calls = ss }) calls
 
-pub call-line : (script : Script) (s : Replay) (m call : ℕ) (text : List ℕ) (o : Option (Plan MapKind MergeKind)) → s.reached ≤ m → settled (call_after script (settled s) m call text o) ≡ settled (call_after script s m call text o)
+pub call-line : (script : Script) (s : Replay) (m call : ℕ) (text : List ℕ) (o : Option (Plan MapKind MergeKind)) → s.reached ≤ m → settled (call_after script (settled s) m call text o)
+    ≡ settled (call_after script s m call text o)
 call-line script s m call text None le = ap (λ (ss : List Standing). record { reached = m; calls = ss }) (all-twice s.reached m s.calls le)
 call-line script s m call text (Some p) le =
     ap (λ (ss : List Standing). record { reached = m; calls = ss })

@@ -53,7 +53,8 @@ module _ {M G : Type 0} (kinds : Kinds M G) where
   refused-asks asked true w ev ew h = absurd (let is = ap (λ v. cond v (Some (Bad EREQUEST)) (cond (list_any is_asked asked) None (Some (Bad ECANCELED)))) ev in let both = sym is ∙ h in cc)
   refused-asks asked false true ev ew h = counted is_asked asked ew
   refused-asks asked false false ev ew h =
-      absurd (let is = ap (λ v. cond v (Some (Bad EREQUEST)) (cond (list_any is_asked asked) None (Some (Bad ECANCELED)))) ev ∙ ap (λ v. cond v None (Some (Bad ECANCELED))) ew in let both = sym is ∙ h in cc)
+      absurd (let is = ap (λ v. cond v (Some (Bad EREQUEST)) (cond (list_any is_asked asked) None (Some (Bad ECANCELED)))) ev ∙ ap (λ v. cond v None (Some (Bad ECANCELED))) ew in let both = sym is
+      ∙ h in cc)
 
   limits-fit : (rule : Rule M G) (asked : List Mapped) → refused asked ≡ None → IsFit (limits rule asked)
   limits-fit rule asked h =
@@ -78,7 +79,8 @@ module _ {M G : Type 0} (kinds : Kinds M G) where
   -- A good judgement has a good part.
   judged-good : (lim : Limits) (merges : List G) (ends : List (Option End)) → IsFit lim → IsGood (judged kinds lim merges ends) → 1 ≤ goods ends
   judged-good lim merges ends fit g =
-      judged-by lim (bads ends) (goods ends) (fold_parts kinds.merge (parts_of merges ends) (bads ends) lim.fail) (nat_le lim.fail (bads ends)) (nat_le lim.ok (goods ends)) (nat_le lim.count (goods ends + bads ends)) fit refl refl refl g
+      judged-by lim (bads ends) (goods ends) (fold_parts kinds.merge (parts_of merges ends) (bads ends) lim.fail) (nat_le lim.fail (bads ends)) (nat_le lim.ok (goods ends))
+      (nat_le lim.count (goods ends + bads ends)) fit refl refl refl g
 
   deadline-by : (lim : Limits) (oks : ℕ) (end : End) (u : Bool) → IsFit lim → nat_le lim.fail (lim.count - oks) ≡ u → IsGood (Some (cond u (Bad ERPCTIMEDOUT) end)) → 1 ≤ oks
   deadline-by lim oks end true fit h g = absurd g
@@ -161,12 +163,14 @@ module _ {M G : Type 0} (kinds : Kinds M G) where
       by true h = h
       by false h = h
 
-  start-ended : (run : Run M G) (states : States M G) (next : Below M G) (o : Option End) → IsEarned run.state → (IsGood o → ⊥) → AreEarned states → StartEarned next → StartEarned (try_ended run states next o)
+  start-ended : (run : Run M G) (states : States M G) (next : Below M G) (o : Option End) → IsEarned run.state → (IsGood o → ⊥) → AreEarned states → StartEarned next
+      → StartEarned (try_ended run states next o)
   unfolding StartEarned
   start-ended run states next None h bad_end hs hn = ((h, hn.0), hn.1)
   start-ended run states next (Some up) h bad_end hs hn = ((h, hs), bad_end)
 
-  start-try : (run : Run M G) (states : States M G) (next : Below M G) (o : Option End) → IsEarned run.state → (IsGood o → ⊥) → AreEarned states → StartEarned next → StartEarned (try_run run states next o)
+  start-try : (run : Run M G) (states : States M G) (next : Below M G) (o : Option End) → IsEarned run.state → (IsGood o → ⊥) → AreEarned states → StartEarned next
+      → StartEarned (try_run run states next o)
   unfolding StartEarned
   start-try run states next None h bad_end hs hn = ((h, hs), λ g. g)
   start-try run states next (Some end) h bad_end hs hn = start-ended run states next (next_try (is_left states) end) h (λ g. bad_end (next-good (is_left states) end g)) hs hn
@@ -181,7 +185,8 @@ module _ {M G : Type 0} (kinds : Kinds M G) where
   refused-bad asked false true g = g
   refused-bad asked false false g = g
 
-  start-par : (node : ℕ) (timeout : Option ℕ) (m : ℕ) (lim : Limits) (merges : List G) (plans : Plans M G) (below : Below M G) (o : Option End) → (IsGood o → ⊥) → (o ≡ None → IsFit lim) → (IsFit lim → StartEarned below)
+  start-par : (node : ℕ) (timeout : Option ℕ) (m : ℕ) (lim : Limits) (merges : List G) (plans : Plans M G) (below : Below M G) (o : Option End) → (IsGood o → ⊥) → (o ≡ None → IsFit lim)
+      → (IsFit lim → StartEarned below)
       → StartsEarned (par_run node timeout m lim merges (par_started plans below o))
   unfolding StartsEarned StartEarned
   start-par node timeout m lim merges plans below None bad_end fit h = let s = h (fit refl) in ((λ g. absurd (s.1 g), λ e. fit refl, s.0), s.1)
@@ -195,7 +200,8 @@ module _ {M G : Type 0} (kinds : Kinds M G) where
     start-earned node (par_plan rule plans) call request m =
         let asked = mapped kinds.map rule.maps request in
         let lim = limits rule asked in
-        start-par node rule.timeout m lim rule.merges plans (start_subs kinds (node + 1) plans call asked lim rule.merges m []) (refused asked) (λ g. refused-bad asked (list_any is_bad asked) (list_any is_asked asked) g)
+        start-par node rule.timeout m lim rule.merges plans (start_subs kinds (node + 1) plans call asked lim rule.merges m []) (refused asked)
+        (λ g. refused-bad asked (list_any is_bad asked) (list_any is_asked asked) g)
         (λ e. limits-fit rule asked e) (λ fit. start-subs-earned (node + 1) plans call asked lim rule.merges m [] fit refl)
     start-earned node (sel_plan timeout plans) call request m = let h = start-tries-earned (node + 1) plans call request m in ((λ g. absurd (h.1 g), h.0), h.1)
 
@@ -222,16 +228,19 @@ module _ {M G : Type 0} (kinds : Kinds M G) where
     start-tries-earned node (plan_then plan plans) call request m =
         let run = start_at kinds node plan call request m in
         let h = start-earned node plan call request m in
-        start-try run (waiting_states plans) (start_tries kinds (node + nodes plan) plans call request m) (end_of run.state) h.0 h.1 (waiting-earned plans) (start-tries-earned (node + nodes plan) plans call request m)
+        start-try run (waiting_states plans) (start_tries kinds (node + nodes plan) plans call request m) (end_of run.state) h.0 h.1 (waiting-earned plans)
+        (start-tries-earned (node + nodes plan) plans call request m)
 
   -- ---- a step
 
-  below-ended : (run : Run M G) (states : States M G) (next : Below M G) (o : Option End) → IsEarned run.state → (IsGood o → HasGoodLeaf run.state) → AreEarned states → BelowEarned next → BelowEarned (try_ended run states next o)
+  below-ended : (run : Run M G) (states : States M G) (next : Below M G) (o : Option End) → IsEarned run.state → (IsGood o → HasGoodLeaf run.state) → AreEarned states → BelowEarned next
+      → BelowEarned (try_ended run states next o)
   unfolding BelowEarned
   below-ended run states next None h up hs hn = ((h, hn.0), λ g. inr (hn.1 g))
   below-ended run states next (Some end) h up hs hn = ((h, hs), λ g. inl (up g))
 
-  below-try : (run : Run M G) (states : States M G) (next : Below M G) (o : Option End) → IsEarned run.state → (IsGood o → HasGoodLeaf run.state) → AreEarned states → BelowEarned next → BelowEarned (try_run run states next o)
+  below-try : (run : Run M G) (states : States M G) (next : Below M G) (o : Option End) → IsEarned run.state → (IsGood o → HasGoodLeaf run.state) → AreEarned states → BelowEarned next
+      → BelowEarned (try_run run states next o)
   unfolding BelowEarned
   below-try run states next None h up hs hn = ((h, hs), λ g. absurd g)
   below-try run states next (Some end) h up hs hn = below-ended run states next (next_try (is_left states) end) h (λ g. up (next-good (is_left states) end g)) hs hn
@@ -242,7 +251,8 @@ module _ {M G : Type 0} (kinds : Kinds M G) where
   waiting-step node (state_then (waits plan) states) call request m h =
       let run = start_at kinds node plan call request m in
       let s = start-earned node plan call request m in
-      below-try run states (start_waiting kinds (node + nodes plan) states call request m) (end_of run.state) s.0 (λ g. absurd (s.1 g)) h.1 (waiting-step (node + nodes plan) states call request m h.1)
+      below-try run states (start_waiting kinds (node + nodes plan) states call request m) (end_of run.state) s.0 (λ g. absurd (s.1 g)) h.1
+      (waiting-step (node + nodes plan) states call request m h.1)
   waiting-step node (state_then (leaf_state chan q leaf) states) call request m h = (h, λ g. absurd g)
   waiting-step node (state_then (par_state par below) states) call request m h = (h, λ g. absurd g)
   waiting-step node (state_then (sel_state sel below) states) call request m h = (h, λ g. absurd g)
@@ -273,8 +283,12 @@ module _ {M G : Type 0} (kinds : Kinds M G) where
   sel-at-earned sel states true h = (λ g. absurd g, h.1)
 
   par-stepped-earned : (par : Par G) (below : Below M G) → IsFit par.limits → AreEarned below.states → IsEarned (par_stepped kinds par below).state
-  par-stepped-earned par below fit h =
-      (λ g. earned-goods below.states h (judged-good par.limits par.merges (ends_of below.states) fit (where-good below.end (judged kinds par.limits par.merges (ends_of below.states)) g)), λ e. fit, h)
+  par-stepped-earned par below fit h = (
+    λ g. earned-goods below.states h (judged-good par.limits par.merges (ends_of below.states) fit
+        (where-good below.end (judged kinds par.limits par.merges (ends_of below.states)) g)),
+    λ e. fit,
+    h,
+  )
 
   mutual
     unfolding BelowEarned
@@ -285,7 +299,8 @@ module _ {M G : Type 0} (kinds : Kinds M G) where
         earned-either (node_of e == node) (leaf_run chan call node request leaf (leaf_step chan.retry leaf e)) (quiet (leaf_state chan request leaf)) tt tt
     step-earned node (par_state par states) call e m h =
         earned-open par.end (par_state par states) _ h
-        (λ none. earned-either (node_of e == node) (par_at kinds par states e) (par_stepped kinds par (step_subs kinds (node + 1) states call e m)) (par-at-earned par states e (is_deadline e) h none)
+        (λ none. earned-either (node_of e == node) (par_at kinds par states e) (par_stepped kinds par (step_subs kinds (node + 1) states call e m))
+        (par-at-earned par states e (is_deadline e) h none)
         (par-stepped-earned par (step_subs kinds (node + 1) states call e m) (h.1 none) (subs-step-earned (node + 1) states call e m h.2).0))
     step-earned node (sel_state sel states) call e m h =
         earned-open sel.end (sel_state sel states) _ h
@@ -298,7 +313,8 @@ module _ {M G : Type 0} (kinds : Kinds M G) where
         let run = step_at kinds node state call e m in
         let one = step-earned node state call e m h.0 in
         let more = subs-step-earned (node + size state) states call e m h.1 in
-        below-either (nat_lt (node_of e) (node + size state)) _ _ ((one, h.1), λ g. inl (earned-end run.state one (new-good (end_of state) (end_of run.state) g))) ((h.0, more.0), λ g. inr (more.1 g))
+        below-either (nat_lt (node_of e) (node + size state)) _ _ ((one, h.1), λ g. inl (earned-end run.state one (new-good (end_of state) (end_of run.state) g)))
+        ((h.0, more.0), λ g. inr (more.1 g))
 
     tries-step-earned : (node : ℕ) (states : States M G) (call : ℕ) (e : Event) (m : ℕ) (request : List ℕ) → AreEarned states → BelowEarned (step_tries kinds node states call e m request)
     tries-step-earned node last_state call e m request h = (tt, λ g. absurd g)
@@ -334,7 +350,8 @@ module _ {M G : Type 0} (kinds : Kinds M G) where
   call-step-earned call state (event.Deadline node) m h = step-earned 0 state call (event.Deadline node) m h
   call-step-earned call state event.Cancel m h = cancelled-earned state h
 
-  run-earned : (call : ℕ) (events : List (Event × ℕ)) (run : Run M G) → IsEarned run.state → IsEarned (fold (λ (r : Run M G) timed. and_then r (step kinds call r.state timed.0 timed.1)) run events).state
+  run-earned : (call : ℕ) (events : List (Event × ℕ)) (run : Run M G) → IsEarned run.state
+      → IsEarned (fold (λ (r : Run M G) timed. and_then r (step kinds call r.state timed.0 timed.1)) run events).state
   run-earned call [] run h = h
   run-earned call (timed ∷ events) run h = run-earned call events (and_then run (step kinds call run.state timed.0 timed.1)) (call-step-earned call run.state timed.0 timed.1 h)
 
@@ -346,6 +363,7 @@ module _ {M G : Type 0} (kinds : Kinds M G) where
       let last = machine kinds plan call request begun events in
       by (run-from kinds call events first (earned-end last.state (run-earned call events first (start-earned 0 plan call request begun).0) good))
     where
-      by : HasGoodLeaf (start kinds plan call request begun).state ⊎ HasLiveReply kinds call (start kinds plan call request begun).state events → HasLiveReply kinds call (start kinds plan call request begun).state events
+      by : HasGoodLeaf (start kinds plan call request begun).state ⊎ HasLiveReply kinds call (start kinds plan call request begun).state events
+          → HasLiveReply kinds call (start kinds plan call request begun).state events
       by (inl h) = absurd (start-from kinds 0 plan call request begun h)
       by (inr h) = h

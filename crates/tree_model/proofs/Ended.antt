@@ -21,7 +21,8 @@ module _ {M G : Type 0} (kinds : Kinds M G) where
   pub node-ended : (number : ℕ) (state : State M G) (call : ℕ) (e : Event) (moment : ℕ) (end : End) → end_of state ≡ Some end → (step_at kinds number state call e moment).state ≡ state
   node-ended number (waits plan) call e moment end h = refl
   node-ended number (leaf_state chan request leaf) call e moment end h =
-      elim (node_of e == number) as (λ v. (cond v (leaf_run {M = M} {G = G} chan call number request leaf (leaf_step chan.retry leaf e)) (quiet (leaf_state chan request leaf))).state ≡ leaf_state chan request leaf)
+      elim (node_of e == number) as (λ v. (cond v (leaf_run {M = M} {G = G} chan call number request leaf (leaf_step chan.retry leaf e)) (quiet (leaf_state chan request leaf))).state
+      ≡ leaf_state chan request leaf)
       [ true ↦ ap (leaf_state chan request) (leaf-ended chan.retry leaf e end h) | false ↦ refl ]
   node-ended number (par_state par states) call e moment end h = rw h refl
   node-ended number (sel_state sel states) call e moment end h = rw h refl

@@ -6,6 +6,8 @@ use Rattle.tree_model.specs.declared.chan.Chan.TheVariants as chan
 use Rattle.tree_model.specs.declared.chan.PartChan.{PartChan}
 use Rattle.tree_model.specs.declared.chan.Sub.{Sub}
 use Rattle.tree_model.specs.Plan.{Rule, Plan, leaf_plan, par_plan, sel_plan, Plans, last_plan, plan_then, and_plan, plans_of, par_over, sel_over, rule_of, subs_of, tries, part_plans, copies, chan_plan, plan_within, plan}
+use Rattle.tree_model.specs.State.{State, waits, leaf_state, par_state, sel_state, waiting_states}
+use Rattle.tree_model.specs.Paths.{plans_below, child, in_child, node_at}
 use Rattle.tree_model.specs.Completions.{count_of}
 
 length-copies : {X : Type 0} (count : ℕ) (x : X) → length (copies count x) ≡ count
@@ -72,3 +74,50 @@ module _ {M G : Type 0} where
   -- each parallel node of a plan has as many mergers as subs
   pub plan-even : (chans : List (Chan M G)) (number call : ℕ) (p : Plan M G) → plan chans number call ≡ Some p → IsEven p
   plan-even chans number call p e = subst EvenIf e (even-within (suc number) chans call number)
+
+  -- ---- a node at the end of a path
+
+  abbrev EvenState : Option (State M G) → Type 0
+  EvenState None = Unit {0}
+  EvenState (Some (waits plan)) = IsEven plan
+  EvenState (Some (leaf_state chan request leaf)) = Unit {0}
+  EvenState (Some (par_state par states)) = Unit {0}
+  EvenState (Some (sel_state sel states)) = Unit {0}
+
+  even-child : (plans : Plans M G) (k : ℕ) → AreEven plans → EvenState (child k (waiting_states plans))
+  even-child last_plan k h = tt
+  even-child (plan_then plan plans) zero h = h.0
+  even-child (plan_then plan plans) (suc k) h = even-child plans k h.1
+
+  even-below : (plan : Plan M G) → IsEven plan → AreEven (plans_below plan)
+  even-below (leaf_plan leaf) h = tt
+  even-below (par_plan rule plans) h = h.1
+  even-below (sel_plan timeout plans) h = h
+
+  -- what is at a path below nodes that wait waits too
+  abbrev Waiting : Option (State M G) → Type 0
+  Waiting None = Unit {0}
+  Waiting (Some (waits plan)) = Unit {0}
+  Waiting (Some (leaf_state chan request leaf)) = ⊥
+  Waiting (Some (par_state par states)) = ⊥
+  Waiting (Some (sel_state sel states)) = ⊥
+
+  child-waits : (plans : Plans M G) (k : ℕ) → Waiting (child k (waiting_states plans))
+  child-waits last_plan k = tt
+  child-waits (plan_then plan plans) zero = tt
+  child-waits (plan_then plan plans) (suc k) = child-waits plans k
+
+  even-in : (path : List ℕ) (o : Option (State M G)) → EvenState o → Waiting o → ((plan : Plan M G) → IsEven plan → EvenState (node_at path (waits plan))) → EvenState (in_child (node_at path) o)
+  even-in path None h w again = tt
+  even-in path (Some (waits plan)) h w again = again plan h
+  even-in path (Some (leaf_state chan request leaf)) h w again = absurd w
+  even-in path (Some (par_state par states)) h w again = absurd w
+  even-in path (Some (sel_state sel states)) h w again = absurd w
+
+  even-at : (path : List ℕ) (plan : Plan M G) → IsEven plan → EvenState (node_at path (waits plan))
+  even-at [] plan h = h
+  even-at (k ∷ path) plan h = even-in path (child k (waiting_states (plans_below plan))) (even-child (plans_below plan) k (even-below plan h)) (child-waits (plans_below plan) k) (λ p hp. even-at path p hp)
+
+  -- A parallel node of a plan, at the end of whatever path, has as many mergers as subs.
+  pub node-even : (path : List ℕ) (p : Plan M G) (rule : Rule M G) (plans : Plans M G) → IsEven p → node_at path (waits p) ≡ Some (waits (par_plan rule plans)) → count_of plans ≡ length rule.merges
+  node-even path p rule plans h is = (subst EvenState is (even-at path p h)).0

@@ -41,11 +41,13 @@ module _ {M G : Type 0} (kinds : Kinds M G) where
   few-sub n run plans next None h hs = few-then n (nodes_of plans) run next h hs
   few-sub n run plans next (Some end) h hs = few-beside n run plans (Some end) h
 
-  few-ended : (n : ℕ) (run : Run M G) (states : States M G) (next : Below M G) (o : Option End) → IsFew n run → AreFew (unstarted_of states) next → AreFew (n + unstarted_of states) (try_ended run states next o)
+  few-ended : (n : ℕ) (run : Run M G) (states : States M G) (next : Below M G) (o : Option End) → IsFew n run → AreFew (unstarted_of states) next
+      → AreFew (n + unstarted_of states) (try_ended run states next o)
   few-ended n run states next None h hs = few-then n (unstarted_of states) run next h hs
   few-ended n run states next (Some up) h hs = omega (arith, h)
 
-  few-try : (n : ℕ) (run : Run M G) (states : States M G) (next : Below M G) (o : Option End) → IsFew n run → AreFew (unstarted_of states) next → AreFew (n + unstarted_of states) (try_run run states next o)
+  few-try : (n : ℕ) (run : Run M G) (states : States M G) (next : Below M G) (o : Option End) → IsFew n run → AreFew (unstarted_of states) next
+      → AreFew (n + unstarted_of states) (try_run run states next o)
   few-try n run states next None h hs = omega (arith, h)
   few-try n run states next (Some end) h hs = few-ended n run states next (next_try (is_left states) end) h hs
 
@@ -67,19 +69,24 @@ module _ {M G : Type 0} (kinds : Kinds M G) where
         let asked = mapped kinds.map rule.maps request in
         let lim = limits rule asked in
         let below = start_subs kinds (node + 1) plans call asked lim rule.merges moment [] in
-        few-node rule.timeout node moment (nodes_of plans) (par_started plans below (refused asked)) (few-par plans below (refused asked) (subs-few (node + 1) plans call asked lim rule.merges moment []))
+        few-node rule.timeout node moment (nodes_of plans) (par_started plans below (refused asked))
+        (few-par plans below (refused asked) (subs-few (node + 1) plans call asked lim rule.merges moment []))
     start-few node (sel_plan timeout plans) call request moment =
         few-node timeout node moment (nodes_of plans) (start_tries kinds (node + 1) plans call request moment) (tries-few (node + 1) plans call request moment)
 
-    pub subs-few : (node : ℕ) (plans : Plans M G) (call : ℕ) (asked : List Mapped) (lim : Limits) (merges : List G) (moment : ℕ) (ends : List (Option End)) → AreFew (nodes_of plans) (start_subs kinds node plans call asked lim merges moment ends)
+    pub subs-few : (node : ℕ) (plans : Plans M G) (call : ℕ) (asked : List Mapped) (lim : Limits) (merges : List G) (moment : ℕ) (ends : List (Option End))
+        → AreFew (nodes_of plans) (start_subs kinds node plans call asked lim merges moment ends)
     subs-few node last_plan call asked lim merges moment ends = omega arith
     subs-few node (plan_then plan plans) call (answer.Send request ∷ asked) lim merges moment ends =
         let run = start_at kinds node plan call request moment in
         let now = ends ++ end_of run.state ∷ [] in
-        few-sub (nodes plan) run plans (start_subs kinds (node + nodes plan) plans call asked lim merges moment now) (where_ended (end_of run.state) (judged kinds lim merges now)) (start-few node plan call request moment)
+        few-sub (nodes plan) run plans (start_subs kinds (node + nodes plan) plans call asked lim merges moment now) (where_ended (end_of run.state) (judged kinds lim merges now))
+        (start-few node plan call request moment)
         (subs-few (node + nodes plan) plans call asked lim merges moment now)
-    subs-few node (plan_then plan plans) call (answer.Skip ∷ asked) lim merges moment ends = let h = subs-few (node + nodes plan) plans call asked lim merges moment (ends ++ None ∷ []) in omega (arith, h)
-    subs-few node (plan_then plan plans) call (answer.Bad ∷ asked) lim merges moment ends = let h = subs-few (node + nodes plan) plans call asked lim merges moment (ends ++ None ∷ []) in omega (arith, h)
+    subs-few node (plan_then plan plans) call (answer.Skip ∷ asked) lim merges moment ends = let h = subs-few (node + nodes plan) plans call asked lim merges moment (ends ++ None ∷ []) in omega
+        (arith, h)
+    subs-few node (plan_then plan plans) call (answer.Bad ∷ asked) lim merges moment ends = let h = subs-few (node + nodes plan) plans call asked lim merges moment (ends ++ None ∷ []) in omega
+        (arith, h)
     subs-few node (plan_then plan plans) call [] lim merges moment ends = let h = subs-few (node + nodes plan) plans call [] lim merges moment (ends ++ None ∷ []) in omega (arith, h)
 
     pub tries-few : (node : ℕ) (plans : Plans M G) (call : ℕ) (request : List ℕ) (moment : ℕ) → AreFew (nodes_of plans) (start_tries kinds node plans call request moment)
@@ -97,7 +104,8 @@ module _ {M G : Type 0} (kinds : Kinds M G) where
   waiting-few node last_state call request moment = omega arith
   waiting-few node (state_then (waits plan) states) call request moment =
       let run = start_at kinds node plan call request moment in
-      few-try (nodes plan) run states (start_waiting kinds (node + nodes plan) states call request moment) (end_of run.state) (start-few node plan call request moment) (waiting-few (node + nodes plan) states call request moment)
+      few-try (nodes plan) run states (start_waiting kinds (node + nodes plan) states call request moment) (end_of run.state) (start-few node plan call request moment)
+      (waiting-few (node + nodes plan) states call request moment)
   waiting-few node (state_then (leaf_state chan q leaf) states) call request moment = omega arith
   waiting-few node (state_then (par_state par below) states) call request moment = omega arith
   waiting-few node (state_then (sel_state sel below) states) call request moment = omega arith

@@ -119,7 +119,8 @@ own-replies c script replay [] h = h
 own-replies c script replay (act ∷ acts) h =
     by (good-append (own_event c replay.reached act) (own_events c script (after script replay act) acts) h) (λ g. own-replies c script (after script replay act) acts g)
   where
-    by : HasGoodReply (own_event c replay.reached act) ⊎ HasGoodReply (own_events c script (after script replay act) acts) → (HasGoodReply (own_events c script (after script replay act) acts) → HasReplyTo c acts) → HasReplyTo c (act ∷ acts)
+    by : HasGoodReply (own_event c replay.reached act) ⊎ HasGoodReply (own_events c script (after script replay act) acts)
+        → (HasGoodReply (own_events c script (after script replay act) acts) → HasReplyTo c acts) → HasReplyTo c (act ∷ acts)
     by (inl g) again = inl (own-reply c replay.reached act g)
     by (inr g) again = inr (again g)
 
@@ -132,7 +133,8 @@ reply-behind : (c : ℕ) (xs ys : List Act) → HasReplyTo c ys → HasReplyTo c
 reply-behind c [] ys h = h
 reply-behind c (x ∷ xs) ys h = inr (reply-behind c xs ys h)
 
-reply-line : (script : Script) (c count : ℕ) (text : List ℕ) (e : EndsBy script unbegun script.acts c (Good text) count) → HasLiveReply script_kinds c (start script_kinds e.tree c e.text e.begun).state e.events → HasReplyTo c script.acts
+reply-line : (script : Script) (c count : ℕ) (text : List ℕ) (e : EndsBy script unbegun script.acts c (Good text) count)
+    → HasLiveReply script_kinds c (start script_kinds e.tree c e.text e.begun).state e.events → HasReplyTo c script.acts
 reply-line script c count text e live =
     let replies = outer-good e.events (live-good script_kinds c (start script_kinds e.tree c e.text e.begun).state e.events live) in
     let own = own-replies c script (after_all script unbegun (e.before ++ Call e.at c e.chan e.text ∷ [])) e.between (subst HasGoodReply e.own replies) in
@@ -168,11 +170,14 @@ module _ {M G : Type 0} (kinds : Kinds M G) where
     subs-few-of asked last_plan (state_then state states) h few = absurd h
     subs-few-of (answer.Send request ∷ asked) (plan_then plan plans) (state_then state states) h few =
         let one = few-of request plan state h.0 few.0 in let more = subs-few-of asked plans states h.1 few.1 in omega (arith, one, more)
-    subs-few-of (answer.Skip ∷ asked) (plan_then plan plans) (state_then state states) h few = let one = ap attempts h.0 in let more = subs-few-of asked plans states h.1 few.1 in omega (arith, one, more)
-    subs-few-of (answer.Bad ∷ asked) (plan_then plan plans) (state_then state states) h few = let one = ap attempts h.0 in let more = subs-few-of asked plans states h.1 few.1 in omega (arith, one, more)
+    subs-few-of (answer.Skip ∷ asked) (plan_then plan plans) (state_then state states) h few = let one = ap attempts h.0 in let more = subs-few-of asked plans states h.1 few.1 in omega
+        (arith, one, more)
+    subs-few-of (answer.Bad ∷ asked) (plan_then plan plans) (state_then state states) h few = let one = ap attempts h.0 in let more = subs-few-of asked plans states h.1 few.1 in omega
+        (arith, one, more)
     subs-few-of [] (plan_then plan plans) (state_then state states) h few = let one = ap attempts h.0 in let more = subs-few-of [] plans states h.1 few.1 in omega (arith, one, more)
 
-    tries-few-of : (request : List ℕ) (plans : Plans M G) (states : States M G) → TriesAreOf kinds request plans states → EachLeafOf IssuedFew states → attempts_of states ≤ possible_attempts_of plans
+    tries-few-of : (request : List ℕ) (plans : Plans M G) (states : States M G) → TriesAreOf kinds request plans states → EachLeafOf IssuedFew states
+        → attempts_of states ≤ possible_attempts_of plans
     tries-few-of request last_plan last_state h few = omega arith
     tries-few-of request (plan_then plan plans) last_state h few = absurd h
     tries-few-of request last_plan (state_then state states) h few = absurd h
@@ -184,7 +189,8 @@ module _ {M G : Type 0} (kinds : Kinds M G) where
   machine-few plan call request begun events =
       few-of request plan (machine kinds plan call request begun events).state (machine-of kinds plan call request begun events) (attempts-few kinds plan call request begun events)
 
-plain-plan : (chans : List (Chan MapKind MergeKind)) (number call : ℕ) (tree : Plan MapKind MergeKind) (leaf : LeafChan) → plan chans number call ≡ Some tree → slice_get chans number ≡ Some (chan.Leaf leaf) → tree ≡ leaf_plan leaf
+plain-plan : (chans : List (Chan MapKind MergeKind)) (number call : ℕ) (tree : Plan MapKind MergeKind) (leaf : LeafChan) → plan chans number call ≡ Some tree → slice_get chans number
+    ≡ Some (chan.Leaf leaf) → tree ≡ leaf_plan leaf
 plain-plan chans number call tree leaf planned is =
     let same : plan chans number call ≡ Some (leaf_plan leaf) = ap (chan_plan (plan_within number chans call) call) is in
     let both : Some tree ≡ Some (leaf_plan leaf) = sym planned ∙ same in

@@ -118,7 +118,8 @@ finish-took : (k r : ℕ) (b : Begun) → Took [] b (finish_at_most k r b).1
 finish-took zero r b = took-none b
 finish-took (suc k) r b = by (is_some (end_of b.state)) (least_mark b.waiting) refl (λ s d. finish-took k s d)
   where
-    by : (v : Bool) (o : Option (Mark × List Mark)) → least_mark b.waiting ≡ o → ((s : ℕ) (d : Begun) → Took [] d (finish_at_most k s d).1) → Took [] b (cond v (r, b) (finish_least (finish_at_most k) r b o)).1
+    by : (v : Bool) (o : Option (Mark × List Mark)) → least_mark b.waiting ≡ o → ((s : ℕ) (d : Begun) → Took [] d (finish_at_most k s d).1)
+        → Took [] b (cond v (r, b) (finish_least (finish_at_most k) r b o)).1
     by true o e h = took-none b
     by false None e h = took-none b
     by false (Some (mark, others)) e h =
@@ -141,12 +142,14 @@ none-due : (k m : ℕ) (b : Begun) → marks_left b ≤ k → NoneIsDue m (weave
 none-due zero m b le = idle-due m b.waiting (none-left b le)
 none-due (suc k) m b le = by (least_mark b.waiting) refl (λ d h. none-due k m d h)
   where
-    at : (mark : Mark) (others : List Mark) (v : Bool) → nat_le mark.moment m ≡ v → least_mark b.waiting ≡ Some (mark, others) → ((d : Begun) → marks_left d ≤ k → NoneIsDue m (weave_at_most k m d).waiting)
+    at : (mark : Mark) (others : List Mark) (v : Bool) → nat_le mark.moment m ≡ v → least_mark b.waiting ≡ Some (mark, others)
+        → ((d : Begun) → marks_left d ≤ k → NoneIsDue m (weave_at_most k m d).waiting)
         → NoneIsDue m (cond v (weave_at_most k m (take_mark b mark others)) b).waiting
     at mark others true due e again = let left = taken-left b mark others e in again (take_mark b mark others) (omega (arith, left, le))
     at mark others false due e again = late-due m b.waiting mark others e due
 
-    by : (o : Option (Mark × List Mark)) → least_mark b.waiting ≡ o → ((d : Begun) → marks_left d ≤ k → NoneIsDue m (weave_at_most k m d).waiting) → NoneIsDue m (weave_least (weave_at_most k m) m b o).waiting
+    by : (o : Option (Mark × List Mark)) → least_mark b.waiting ≡ o → ((d : Begun) → marks_left d ≤ k → NoneIsDue m (weave_at_most k m d).waiting)
+        → NoneIsDue m (weave_least (weave_at_most k m) m b o).waiting
     by None e again = idle-due m b.waiting e
     by (Some (mark, others)) e again = at mark others (nat_le mark.moment m) refl e again
 
@@ -160,7 +163,8 @@ event-took e m b is =
 one_more : ℕ → Run MapKind MergeKind → Event × ℕ → Run MapKind MergeKind
 one_more call run timed = and_then run (step script_kinds call run.state timed.0 timed.1)
 
-machine-took : (events : List (Event × ℕ)) (run : Run MapKind MergeKind) (b : Begun) → run.state ≡ b.state → (fold (λ (r : Run MapKind MergeKind) timed. and_then r (step script_kinds b.call r.state timed.0 timed.1)) run events).state ≡ (fold take b events).state
+machine-took : (events : List (Event × ℕ)) (run : Run MapKind MergeKind) (b : Begun) → run.state ≡ b.state
+    → (fold (λ (r : Run MapKind MergeKind) timed. and_then r (step script_kinds b.call r.state timed.0 timed.1)) run events).state ≡ (fold take b events).state
 machine-took [] run b e = e
 machine-took (timed ∷ events) run b e =
     machine-took events (and_then run (step script_kinds b.call run.state timed.0 timed.1)) (take b timed) (ap (λ s. (step script_kinds b.call s timed.0 timed.1).state) e)
@@ -180,7 +184,8 @@ find-pushed : (c : ℕ) (xs : List Standing) (s t : Standing) → find (is_call 
 find-pushed c [] s t h = absurd (cc)
 find-pushed c (x ∷ xs) s t h = by (number_of x == c) h (λ e. find-pushed c xs s t e)
   where
-    by : (v : Bool) → cond v (Some x) (find (is_call c) xs) ≡ Some t → (find (is_call c) xs ≡ Some t → find (is_call c) (xs ++ s ∷ []) ≡ Some t) → cond v (Some x) (find (is_call c) (xs ++ s ∷ [])) ≡ Some t
+    by : (v : Bool) → cond v (Some x) (find (is_call c) xs) ≡ Some t → (find (is_call c) xs ≡ Some t → find (is_call c) (xs ++ s ∷ []) ≡ Some t) → cond v (Some x) (find (is_call c) (xs ++ s ∷ []))
+        ≡ Some t
     by true e again = e
     by false e again = again e
 
@@ -236,7 +241,8 @@ record Joins (c : ℕ) (script : Script) (replay : Replay) (act : Act) (b : Begu
 abbrev LineIs : ℕ → Script → Replay → Act → Begun → Type 0
 LineIs c script replay act b = (Stays c (after script replay act).calls (own_event c replay.reached act) b × (count_by (is_end_of c) (tells script replay act) ≡ 0)) ⊎ Joins c script replay act b
 
-joins-or : (c : ℕ) (script : Script) (replay : Replay) (b d : Begun) (o : Option End) → find (is_call c) replay.calls ≡ Some (begun b) → d ≡ (finish replay.reached b).1 → end_of d.state ≡ o → Took [] b d → d.call ≡ b.call
+joins-or : (c : ℕ) (script : Script) (replay : Replay) (b d : Begun) (o : Option End) → find (is_call c) replay.calls ≡ Some (begun b) → d ≡ (finish replay.reached b).1 → end_of d.state ≡ o
+    → Took [] b d → d.call ≡ b.call
     → LineIs c script replay (Join c) b
 unfolding after tells
 joins-or c script replay b d None h is e took call =
@@ -260,7 +266,8 @@ joins-or c script replay b d (Some end) h is e took call =
       silent = subst Silent (sym found) tt;
     })
 
-silent-join : (c : ℕ) (replay : Replay) (call : ℕ) → (c ≡ call → ⊥) → JoinTells c replay.reached (find (is_call call) replay.calls) → count_by (is_end_of c) (join_tells replay.reached (find (is_call call) replay.calls)) ≡ 0
+silent-join : (c : ℕ) (replay : Replay) (call : ℕ) → (c ≡ call → ⊥) → JoinTells c replay.reached (find (is_call call) replay.calls)
+    → count_by (is_end_of c) (join_tells replay.reached (find (is_call call) replay.calls)) ≡ 0
 silent-join c replay call differ (inl none) = none
 silent-join c replay call differ (inr one) = absurd (differ (found-number call c replay.calls (find (is_call call) replay.calls) refl one.1))
 
@@ -271,7 +278,11 @@ line-join c script replay call b h (inl same) =
     subst (λ (n : ℕ). LineIs c script replay (Join n) b) same
     (joins-or c script replay b d (end_of d.state) h refl refl (finish-took (marks_left b) replay.reached b) (finish-call (marks_left b) replay.reached b))
 line-join c script replay call b h (inr differ) =
-    inl (stays-as c _ b (find-other c call (joined replay.reached) (joined-number replay.reached) differ replay.calls ∙ h), silent-join c replay call differ (join-tells c replay.reached (find (is_call call) replay.calls)))
+    inl (
+      stays-as c _ b (find-other c call (joined replay.reached) (joined-number replay.reached) differ replay.calls ∙ h),
+      silent-join c replay call differ
+          (join-tells c replay.reached (find (is_call call) replay.calls)),
+    )
 
 line-is : (c : ℕ) (script : Script) (replay : Replay) (act : Act) (b : Begun) → find (is_call c) replay.calls ≡ Some (begun b) → LineIs c script replay act b
 unfolding after tells
@@ -335,7 +346,8 @@ from-joined script replay act acts b c end count j (inr h) = absurd (uncounted c
 
 from-line : (script : Script) (replay : Replay) (act : Act) (acts : List Act) (b : Begun) (c : ℕ) (end : End) (count : ℕ) → LineIs c script replay act b
     → Contains (tells script replay act) (Ended c end count) ⊎ Contains (told_from script (after script replay act) acts) (Ended c end count)
-    → ((d : Begun) → find (is_call c) (after script replay act).calls ≡ Some (begun d) → Contains (told_from script (after script replay act) acts) (Ended c end count) → From script (after script replay act) acts d c end count)
+    → ((d : Begun) → find (is_call c) (after script replay act).calls ≡ Some (begun d) → Contains (told_from script (after script replay act) acts) (Ended c end count) → From script
+    (after script replay act) acts d c end count)
     → From script replay (act ∷ acts) b c end count
 from-line script replay act acts b c end count (inr joins) h again = from-joined script replay act acts b c end count joins h
 from-line script replay act acts b c end count (inl stays) (inl h) again = absurd (uncounted c end count (tells script replay act) h stays.1)
@@ -345,7 +357,8 @@ from-begun : (script : Script) (replay : Replay) (acts : List Act) (b : Begun) (
     → Contains (told_from script replay acts) (Ended c end count) → From script replay acts b c end count
 from-begun script replay [] b c end count found h = absurd (let less = h.1 in omega (arith, less))
 from-begun script replay (act ∷ acts) b c end count found h =
-    from-line script replay act acts b c end count (line-is c script replay act b found) (Contains-append_cases (tells script replay act) (told_from script (after script replay act) acts) (Ended c end count) h)
+    from-line script replay act acts b c end count (line-is c script replay act b found)
+    (Contains-append_cases (tells script replay act) (told_from script (after script replay act) acts) (Ended c end count) h)
     (λ d e k. from-begun script (after script replay act) acts d c end count e k)
 
 -- ---- all lines of a call that has yet to begin
@@ -364,7 +377,8 @@ none-tells c script replay (Join call) h = by (equal_or_not c call)
     by (inl same) = ap (λ (o : Option Standing). count_by (is_end_of c) (join_tells replay.reached o)) (subst (λ (d : ℕ). find (is_call d) replay.calls ≡ None) same h)
     by (inr differ) = silent-join c replay call differ (join-tells c replay.reached (find (is_call call) replay.calls))
 
-ends-later : (script : Script) (replay : Replay) (act : Act) (acts : List Act) (c : ℕ) (end : End) (count : ℕ) → EndsBy script (after script replay act) acts c end count → EndsBy script replay (act ∷ acts) c end count
+ends-later : (script : Script) (replay : Replay) (act : Act) (acts : List Act) (c : ℕ) (end : End) (count : ℕ) → EndsBy script (after script replay act) acts c end count
+    → EndsBy script replay (act ∷ acts) c end count
 ends-later script replay act acts c end count f = record {
   before = act ∷ f.before;
   at = f.at;
@@ -419,27 +433,33 @@ find-none c call f xs keeps (inr differ) h = find-other c call f keeps differ xs
 
 -- where the lines behind this one have an end of the call, it is of a call that begins at this line or later
 abbrev LaterEnds : Script → Replay → Act → List Act → ℕ → End → ℕ → Type 0
-LaterEnds script replay act acts c end count = (find (is_call c) (after script replay act).calls ≡ None → EndsBy script (after script replay act) acts c end count) → Contains (told_from script (after script replay act) acts) (Ended c end count)
+LaterEnds script replay act acts c end count = (find (is_call c) (after script replay act).calls ≡ None → EndsBy script (after script replay act) acts c end count) → Contains
+    (told_from script (after script replay act) acts) (Ended c end count)
     → EndsBy script replay (act ∷ acts) c end count
 
-silent-ends : (script : Script) (replay : Replay) (acts : List Act) (c : ℕ) (end : End) (count : ℕ) → Silent (find (is_call c) replay.calls) → Contains (told_from script replay acts) (Ended c end count) → ⊥
+silent-ends : (script : Script) (replay : Replay) (acts : List Act) (c : ℕ) (end : End) (count : ℕ) → Silent (find (is_call c) replay.calls)
+    → Contains (told_from script replay acts) (Ended c end count) → ⊥
 silent-ends script replay acts c end count silent h = uncounted c end count (told_from script replay acts) h (silent-from c script replay acts silent)
 
 -- a call line of this number, where none of the number has begun
-new-ends : (script : Script) (replay : Replay) (acts : List Act) (c at chan : ℕ) (text : List ℕ) (end : End) (count : ℕ) (tree : Plan MapKind MergeKind) (v : Bool) → plan script.chans chan c ≡ Some tree → is_full script replay ≡ v
-    → find (is_call c) (after script replay (Call at c chan text)).calls ≡ Some (stand_new (is_full script replay) c tree text (max replay.reached at)) → LaterEnds script replay (Call at c chan text) acts c end count
+new-ends : (script : Script) (replay : Replay) (acts : List Act) (c at chan : ℕ) (text : List ℕ) (end : End) (count : ℕ) (tree : Plan MapKind MergeKind) (v : Bool) → plan script.chans chan c
+    ≡ Some tree → is_full script replay ≡ v
+    → find (is_call c) (after script replay (Call at c chan text)).calls ≡ Some (stand_new (is_full script replay) c tree text (max replay.reached at)) → LaterEnds script replay
+    (Call at c chan text) acts c end count
 new-ends script replay acts c at chan text end count tree true planned e found later h =
     let is = found ∙ ap (λ v. Some (stand_new v c tree text (max replay.reached at))) e in
     absurd (silent-ends script (after script replay (Call at c chan text)) acts c end count (subst Silent (sym is) tt) h)
 new-ends script replay acts c at chan text end count tree false planned e found later h =
     let is = found ∙ ap (λ v. Some (stand_new v c tree text (max replay.reached at))) e in
-    ends-here script replay acts c at chan text tree end count planned (from-begun script (after script replay (Call at c chan text)) acts (begin c tree text (max replay.reached at)) c end count is h)
+    ends-here script replay acts c at chan text tree end count planned (from-begun script (after script replay (Call at c chan text)) acts
+    (begin c tree text (max replay.reached at)) c end count is h)
 
 stand_new-number : (v : Bool) (call : ℕ) (p : Plan MapKind MergeKind) (text : List ℕ) (moment : ℕ) → number_of (stand_new v call p text moment) ≡ call
 stand_new-number true call p text moment = refl
 stand_new-number false call p text moment = refl
 
-call-ends : (script : Script) (replay : Replay) (acts : List Act) (c at call chan : ℕ) (text : List ℕ) (end : End) (count : ℕ) (o : Option (Plan MapKind MergeKind)) → plan script.chans chan call ≡ o → find (is_call c) replay.calls ≡ None
+call-ends : (script : Script) (replay : Replay) (acts : List Act) (c at call chan : ℕ) (text : List ℕ) (end : End) (count : ℕ) (o : Option (Plan MapKind MergeKind)) → plan script.chans chan call
+    ≡ o → find (is_call c) replay.calls ≡ None
     → (c ≡ call) ⊎ (c ≡ call → ⊥) → LaterEnds script replay (Call at call chan text) acts c end count
 unfolding after
 call-ends script replay acts c at call chan text end count None planned none same later h =
@@ -463,7 +483,8 @@ call-ends script replay acts c at call chan text end count (Some tree) planned n
 
 line-ends : (script : Script) (replay : Replay) (act : Act) (acts : List Act) (c : ℕ) (end : End) (count : ℕ) → find (is_call c) replay.calls ≡ None → LaterEnds script replay act acts c end count
 unfolding after
-line-ends script replay (Call at call chan text) acts c end count none later h = call-ends script replay acts c at call chan text end count (plan script.chans chan call) refl none (equal_or_not c call) later h
+line-ends script replay (Call at call chan text) acts c end count none later h = call-ends script replay acts c at call chan text end count (plan script.chans chan call) refl none
+    (equal_or_not c call) later h
 line-ends script replay (Cancel at call) acts c end count none later h =
     ends-later script replay _ acts c end count (later (find-none c call _ replay.calls (event-number event.Cancel (max replay.reached at)) (equal_or_not c call) none))
 line-ends script replay (Reply at call node attempt code text) acts c end count none later h =
@@ -478,10 +499,12 @@ ends-from : (script : Script) (replay : Replay) (acts : List Act) (c : ℕ) (end
     → EndsBy script replay acts c end count
 ends-from script replay [] c end count none h = absurd (let less = h.1 in omega (arith, less))
 ends-from script replay (act ∷ acts) c end count none h =
-    by (Contains-append_cases (tells script replay act) (told_from script (after script replay act) acts) (Ended c end count) h) (λ n k. ends-from script (after script replay act) acts c end count n k)
+    by (Contains-append_cases (tells script replay act) (told_from script (after script replay act) acts) (Ended c end count) h)
+    (λ n k. ends-from script (after script replay act) acts c end count n k)
   where
     by : Contains (tells script replay act) (Ended c end count) ⊎ Contains (told_from script (after script replay act) acts) (Ended c end count)
-        → (find (is_call c) (after script replay act).calls ≡ None → Contains (told_from script (after script replay act) acts) (Ended c end count) → EndsBy script (after script replay act) acts c end count)
+        → (find (is_call c) (after script replay act).calls ≡ None → Contains (told_from script (after script replay act) acts) (Ended c end count) → EndsBy script
+        (after script replay act) acts c end count)
         → EndsBy script replay (act ∷ acts) c end count
     by (inl h) again = absurd (uncounted c end count (tells script replay act) h (none-tells c script replay act none))
     by (inr h) again = line-ends script replay act acts c end count none (λ n. again n h) h

@@ -69,7 +69,8 @@ module _ {M G : Type 0} (kinds : Kinds M G) where
   root-started node (leaf_plan leaf) call request m = omega arith
   root-started node (par_plan rule plans) call request m =
       let asked = mapped kinds.map rule.maps request in
-      let few = few-par kinds plans (start_subs kinds (node + 1) plans call asked (limits rule asked) rule.merges m []) (refused asked) (subs-few kinds (node + 1) plans call asked (limits rule asked) rule.merges m []) in
+      let few = few-par kinds plans (start_subs kinds (node + 1) plans call asked (limits rule asked) rule.merges m []) (refused asked)
+      (subs-few kinds (node + 1) plans call asked (limits rule asked) rule.merges m []) in
       omega (arith, few)
   root-started node (sel_plan timeout plans) call request m = let few = tries-few kinds (node + 1) plans call request m in omega (arith, few)
 
@@ -81,7 +82,8 @@ marks-later : (bound before now : ℕ) (marks : List Mark) → now ≤ before �
 marks-later bound before now marks le h = all-weaker (MarkBy bound before) (MarkBy bound now) marks (λ mark soon. omega (arith, soon, le)) h
 
 -- the marks that a step set, at most twice as many as the nodes that it started
-new-marks : (bound before now moment : ℕ) (marks : List Mark) → InTime bound before moment → length marks + 2 * now ≤ 2 * before → AllByRecursion (IsSoon moment) marks → AllByRecursion (MarkBy bound now) marks
+new-marks : (bound before now moment : ℕ) (marks : List Mark) → InTime bound before moment → length marks + 2 * now ≤ 2 * before → AllByRecursion (IsSoon moment) marks
+    → AllByRecursion (MarkBy bound now) marks
 unfolding InTime
 new-marks bound before now moment [] early few h = tt
 new-marks bound before now moment (mark ∷ marks) early few h =
@@ -102,19 +104,22 @@ apply-by bound b e moment early h =
       few = omega (arith, few, bound_is);
     }
 
-taken-by : (bound : ℕ) (b : Begun) (mark : Mark) (others : List Mark) → least_mark b.waiting ≡ Some (mark, others) → IsSoonBy bound b → MarkBy bound (unstarted b.state) mark × IsSoonBy bound (take_mark b mark others)
+taken-by : (bound : ℕ) (b : Begun) (mark : Mark) (others : List Mark) → least_mark b.waiting ≡ Some (mark, others) → IsSoonBy bound b → MarkBy bound (unstarted b.state) mark
+    × IsSoonBy bound (take_mark b mark others)
 unfolding InTime
 taken-by bound b mark others e h =
     let first = split b.waiting e h.marks in
     (first.0, apply-by bound (record b { waiting = others }) (mark_event mark.node mark.kind) mark.moment first.0 (record { marks = first.1; short = h.short; few = h.few }))
   where
-    split : (xs : List Mark) → least_mark xs ≡ Some (mark, others) → AllByRecursion (MarkBy bound (unstarted b.state)) xs → MarkBy bound (unstarted b.state) mark × AllByRecursion (MarkBy bound (unstarted b.state)) others
+    split : (xs : List Mark) → least_mark xs ≡ Some (mark, others) → AllByRecursion (MarkBy bound (unstarted b.state)) xs → MarkBy bound (unstarted b.state) mark
+        × AllByRecursion (MarkBy bound (unstarted b.state)) others
     split [] e hs = absurd (cc)
     split (x ∷ xs) e hs =
         let same : (x, xs) ≡ (mark, others) = cc in
         subst (λ (p : Mark × List Mark). MarkBy bound (unstarted b.state) p.0 × AllByRecursion (MarkBy bound (unstarted b.state)) p.1) same hs
 
-weave-met : (bound : ℕ) (again : Begun → Begun) (moment : ℕ) (b : Begun) (o : Option (Mark × List Mark)) → least_mark b.waiting ≡ o → ((d : Begun) → IsSoonBy bound d → IsSoonBy bound (again d)) → IsSoonBy bound b → IsSoonBy bound (weave_least again moment b o)
+weave-met : (bound : ℕ) (again : Begun → Begun) (moment : ℕ) (b : Begun) (o : Option (Mark × List Mark)) → least_mark b.waiting ≡ o → ((d : Begun) → IsSoonBy bound d → IsSoonBy bound (again d))
+    → IsSoonBy bound b → IsSoonBy bound (weave_least again moment b o)
 weave-met bound again moment b None e keeps h = h
 weave-met bound again moment b (Some (mark, others)) e keeps h =
     elim (nat_le mark.moment moment) as (λ v. IsSoonBy bound (cond v (again (take_mark b mark others)) b)) [ true ↦ keeps (take_mark b mark others) (taken-by bound b mark others e h).1 | false ↦ h ]
@@ -126,7 +131,8 @@ weave-by bound (suc count) moment b h = weave-met bound (weave_at_most count mom
 FinishedBy : ℕ → ℕ × Begun → Type 0
 FinishedBy bound p = (p.0 ≤ bound + 2 ^ 41) × IsSoonBy bound p.1
 
-finish-met : (bound : ℕ) (again : ℕ → Begun → ℕ × Begun) (reached : ℕ) (b : Begun) (o : Option (Mark × List Mark)) → least_mark b.waiting ≡ o → ((r : ℕ) (d : Begun) → r ≤ bound + 2 ^ 41 → IsSoonBy bound d → FinishedBy bound (again r d))
+finish-met : (bound : ℕ) (again : ℕ → Begun → ℕ × Begun) (reached : ℕ) (b : Begun) (o : Option (Mark × List Mark)) → least_mark b.waiting ≡ o
+    → ((r : ℕ) (d : Begun) → r ≤ bound + 2 ^ 41 → IsSoonBy bound d → FinishedBy bound (again r d))
     → reached ≤ bound + 2 ^ 41 → IsSoonBy bound b → FinishedBy bound (finish_least again reached b o)
 unfolding FinishedBy
 finish-met bound again reached b None e keeps r h = (r, h)
@@ -165,7 +171,8 @@ joined-by bound reached (begun b) r h = stand_joined-by bound _ _ (finish-by bou
 joined-by bound reached (full call) r h = tt
 joined-by bound reached (told_of call) r h = tt
 
-change-by : (P : Standing → Type 0) (t : Standing → Bool) (f : Standing → Standing) → ((s : Standing) → P s → P (f s)) → (xs : List Standing) → AllByRecursion P xs → AllByRecursion P (change_first t f xs)
+change-by : (P : Standing → Type 0) (t : Standing → Bool) (f : Standing → Standing) → ((s : Standing) → P s → P (f s)) → (xs : List Standing) → AllByRecursion P xs
+    → AllByRecursion P (change_first t f xs)
 change-by P t f keeps [] h = h
 change-by P t f keeps (x ∷ xs) h = elim (t x) as (λ v. AllByRecursion P (cond v (f x ∷ xs) (x ∷ change_first t f xs))) [ true ↦ (keeps x h.0, h.1) | false ↦ (h.0, change-by P t f keeps xs h.1) ]
 
@@ -188,7 +195,8 @@ joined_moment-by bound reached (Some (told_of call)) r h = omega (arith, r)
 -- A higher bound holds too.
 stands-later : (bound : ℕ) (s : Standing) → StandsBy bound s → StandsBy (bound + 2 ^ 41) s
 stands-later bound (begun b) h = record {
-  marks = all-weaker (MarkBy bound (unstarted b.state)) (MarkBy (bound + 2 ^ 41) (unstarted b.state)) b.waiting (λ mark soon. let early : mark.moment + unstarted b.state * 2 ^ 31 ≤ bound + 2 ^ 41 = soon in omega (arith, early)) h.marks;
+  marks = all-weaker (MarkBy bound (unstarted b.state)) (MarkBy (bound + 2 ^ 41) (unstarted b.state)) b.waiting
+      (λ mark soon. let early : mark.moment + unstarted b.state * 2 ^ 31 ≤ bound + 2 ^ 41 = soon in omega (arith, early)) h.marks;
   short = h.short;
   few = h.few;
 }
@@ -262,16 +270,19 @@ begin-by bound call p text moment early short narrow =
     let wide = width-is p in
     let few : unstarted run.state ≤ 1023 = omega (arith, root, wide, narrow) in
     record {
-      marks = sets-all (MarkBy bound (unstarted run.state)) run.marks [] (all-weaker (IsSoon moment) (MarkBy bound (unstarted run.state)) run.marks (λ mark h. omega (arith, h, few, early)) soon.0) tt;
+      marks = sets-all (MarkBy bound (unstarted run.state)) run.marks [] (all-weaker (IsSoon moment) (MarkBy bound (unstarted run.state)) run.marks
+          (λ mark h. omega (arith, h, few, early)) soon.0) tt;
       short = soon.1;
       few = few;
     }
 
-stand_new-by : (bound : ℕ) (f : Bool) (call : ℕ) (p : Plan MapKind MergeKind) (text : List ℕ) (moment : ℕ) → moment ≤ bound → IsShort p → width p ≤ 1024 → StandsBy bound (stand_new f call p text moment)
+stand_new-by : (bound : ℕ) (f : Bool) (call : ℕ) (p : Plan MapKind MergeKind) (text : List ℕ) (moment : ℕ) → moment ≤ bound → IsShort p → width p ≤ 1024
+    → StandsBy bound (stand_new f call p text moment)
 stand_new-by bound true call p text moment early short narrow = tt
 stand_new-by bound false call p text moment early short narrow = begin-by bound call p text moment early short narrow
 
-call_after-by : (bound : ℕ) (script : Script) (replay : Replay) (moment call : ℕ) (text : List ℕ) (o : Option (Plan MapKind MergeKind)) → moment ≤ bound → ShortIf o → IsNarrow o → IsBy bound replay → IsBy (bound + 2 ^ 41) (call_after script replay moment call text o)
+call_after-by : (bound : ℕ) (script : Script) (replay : Replay) (moment call : ℕ) (text : List ℕ) (o : Option (Plan MapKind MergeKind)) → moment ≤ bound → ShortIf o → IsNarrow o → IsBy bound replay
+    → IsBy (bound + 2 ^ 41) (call_after script replay moment call text o)
 call_after-by bound script replay moment call text None early short narrow by' = record { moment = omega (arith, early); calls = calls-later bound replay.calls by'.calls }
 call_after-by bound script replay moment call text (Some p) early short narrow by' = record {
   moment = omega (arith, early);
@@ -291,11 +302,14 @@ call_join-by bound replay call by' = record {
 }
 
 -- A line whose moment is within the bound.
-pub after-by : (bound servers : ℕ) (script : Script) (replay : Replay) (act : Act) → AreChans servers 0 script.chans → BeginsNarrow script.chans act → moment_of act ≤ bound → IsBy bound replay → IsBy (bound + 2 ^ 41) (after script replay act)
+pub after-by : (bound servers : ℕ) (script : Script) (replay : Replay) (act : Act) → AreChans servers 0 script.chans → BeginsNarrow script.chans act → moment_of act ≤ bound → IsBy bound replay
+    → IsBy (bound + 2 ^ 41) (after script replay act)
 unfolding after
 after-by bound servers script replay (Call at call chan text) channels narrow early by' =
-    call_after-by bound script replay (max replay.reached at) call text (plan script.chans chan call) (let m = by'.moment in omega (arith, m, early)) (short-within (suc chan) servers script.chans call chan channels) narrow by'
-after-by bound servers script replay (Cancel at call) channels narrow early by' = call_event-by bound replay (max replay.reached at) call event.Cancel (let m = by'.moment in omega (arith, m, early)) by'
+    call_after-by bound script replay (max replay.reached at) call text (plan script.chans chan call) (let m = by'.moment in omega (arith, m, early))
+    (short-within (suc chan) servers script.chans call chan channels) narrow by'
+after-by bound servers script replay (Cancel at call) channels narrow early by' = call_event-by bound replay (max replay.reached at) call event.Cancel
+    (let m = by'.moment in omega (arith, m, early)) by'
 after-by bound servers script replay (Reply at call node attempt code text) channels narrow early by' =
     call_event-by bound replay (max replay.reached at) call (event.Reply node attempt code text) (let m = by'.moment in omega (arith, m, early)) by'
 after-by bound servers script replay (Lose at call node attempt code) channels narrow early by' =
@@ -305,18 +319,21 @@ after-by bound servers script replay (Join call) channels narrow early by' = cal
 
 -- ---- all lines
 
-lines-by : (bound servers : ℕ) (script : Script) (replay : Replay) (acts : List Act) → AreChans servers 0 script.chans → All (BeginsNarrow script.chans) acts → All IsMoment acts → 2 ^ 53 ≤ bound → IsBy bound replay
+lines-by : (bound servers : ℕ) (script : Script) (replay : Replay) (acts : List Act) → AreChans servers 0 script.chans → All (BeginsNarrow script.chans) acts → All IsMoment acts → 2 ^ 53 ≤ bound
+    → IsBy bound replay
     → IsBy (bound + length acts * 2 ^ 41) (after_all script replay acts)
 lines-by bound servers script replay [] channels narrow moments high by' = let same : bound ≡ bound + 0 * 2 ^ 41 = omega arith in subst (λ b. IsBy b replay) same by'
 lines-by bound servers script replay (act ∷ acts) channels narrow moments high by' =
     let early : moment_of act < 2 ^ 53 = All-head IsMoment act acts moments in
     let one = after-by bound servers script replay act channels (All-head (BeginsNarrow script.chans) act acts narrow) (omega (arith, early, high)) by' in
-    let more = lines-by (bound + 2 ^ 41) servers script (after script replay act) acts channels (All-tail (BeginsNarrow script.chans) act acts narrow) (All-tail IsMoment act acts moments) (omega (arith, high)) one in
+    let more = lines-by (bound + 2 ^ 41) servers script (after script replay act) acts channels (All-tail (BeginsNarrow script.chans) act acts narrow) (All-tail IsMoment act acts moments)
+    (omega (arith, high)) one in
     let same : bound + 2 ^ 41 + length acts * 2 ^ 41 ≡ bound + suc (length acts) * 2 ^ 41 = omega arith in
     subst (λ b. IsBy b (after_all script (after script replay act) acts)) same more
 
 stands-early : (bound : ℕ) (s : Standing) → bound + 2 ^ 41 < 2 ^ 60 → StandsBy bound s → WaitsEarly s
-stands-early bound (begun b) low h = all-weaker (MarkBy bound (unstarted b.state)) (λ mark. mark.moment < 2 ^ 60) b.waiting (λ mark soon. let early : mark.moment + unstarted b.state * 2 ^ 31 ≤ bound + 2 ^ 41 = soon in omega (arith, early, low)) h.marks
+stands-early bound (begun b) low h = all-weaker (MarkBy bound (unstarted b.state)) (λ mark. mark.moment < 2 ^ 60) b.waiting
+    (λ mark soon. let early : mark.moment + unstarted b.state * 2 ^ 31 ≤ bound + 2 ^ 41 = soon in omega (arith, early, low)) h.marks
 stands-early bound (full call) low h = tt
 stands-early bound (told_of call) low h = tt
 

@@ -27,7 +27,8 @@ pub weave-call : (count moment : ℕ) (b : Begun) → (weave_at_most count momen
 weave-call zero moment b = refl
 weave-call (suc count) moment b = weave_least-call (weave_at_most count moment) moment b (least_mark b.waiting) (λ d. weave-call count moment d)
 
-finish_least-call : (again : ℕ → Begun → ℕ × Begun) (reached : ℕ) (b : Begun) (o : Option (Mark × List Mark)) → ((r : ℕ) (d : Begun) → (again r d).1.call ≡ d.call) → (finish_least again reached b o).1.call ≡ b.call
+finish_least-call : (again : ℕ → Begun → ℕ × Begun) (reached : ℕ) (b : Begun) (o : Option (Mark × List Mark)) → ((r : ℕ) (d : Begun) → (again r d).1.call ≡ d.call)
+    → (finish_least again reached b o).1.call ≡ b.call
 finish_least-call again reached b None keeps = refl
 finish_least-call again reached b (Some (mark, others)) keeps = keeps (max reached mark.moment) (take_mark b mark others)
 
@@ -110,7 +111,8 @@ silent-joined reached (Some (told_of call)) h = tt
 silent-pushed : (c : ℕ) (xs : List Standing) (s : Standing) → Silent (find (is_call c) xs) → Silent (find (is_call c) (xs ++ s ∷ []))
 silent-pushed c [] s h = absurd h
 silent-pushed c (x ∷ xs) s h =
-    elim (number_of x == c) as (λ v. Silent (cond v (Some x) (find (is_call c) xs)) → Silent (cond v (Some x) (find (is_call c) (xs ++ s ∷ [])))) [ true ↦ λ here. here | false ↦ λ later. silent-pushed c xs s later ] h
+    elim (number_of x == c) as (λ v. Silent (cond v (Some x) (find (is_call c) xs)) → Silent
+    (cond v (Some x) (find (is_call c) (xs ++ s ∷ [])))) [ true ↦ λ here. here | false ↦ λ later. silent-pushed c xs s later ] h
 
 pub equal_or_not : (c d : ℕ) → (c ≡ d) ⊎ (c ≡ d → ⊥)
 equal_or_not c d = elim (c == d) as (λ v. (c == d) ≡ v → (c ≡ d) ⊎ (c ≡ d → ⊥)) [ true ↦ λ e. inl (grind arith) | false ↦ λ e. inr (λ same. grind arith) ] refl
@@ -164,7 +166,8 @@ NumberIs c (Some s) = number_of s ≡ c
 abbrev pub JoinTells : ℕ → ℕ → Option Standing → Type 0
 JoinTells c reached o = (count_by (is_end_of c) (join_tells reached o) ≡ 0) ⊎ ((count_by (is_end_of c) (join_tells reached o) ≡ 1) × NumberIs c o × Silent (option_map (joined reached) o))
 
-join_end-tells : (c : ℕ) (b : Begun) (end : Option End) → (count_by (is_end_of c) (join_end b end ∷ []) ≡ 0) ⊎ ((count_by (is_end_of c) (join_end b end ∷ []) ≡ 1) × (b.call ≡ c) × SilentStand (stand_joined b end))
+join_end-tells : (c : ℕ) (b : Begun) (end : Option End) → (count_by (is_end_of c) (join_end b end ∷ []) ≡ 0)
+    ⊎ ((count_by (is_end_of c) (join_end b end ∷ []) ≡ 1) × (b.call ≡ c) × SilentStand (stand_joined b end))
 join_end-tells c b None = inl refl
 join_end-tells c b (Some end) = ended-counts (b.call == c) refl
   where

@@ -50,39 +50,49 @@ module _ {M G : Type 0} (kinds : Kinds M G) (call : ℕ) (e : Event) (m : ℕ) w
   moved-then before now states others h hs zero = h
   moved-then before now states others h hs (suc k) = hs k
 
-  moved-ended : (before : State M G) (states : States M G) (run : Run M G) (next : Below M G) (o : Option End) → Moved before run.state → ChildrenMoved states next.states → ChildrenMoved (state_then before states) (try_ended run states next o).states
+  moved-ended : (before : State M G) (states : States M G) (run : Run M G) (next : Below M G) (o : Option End) → Moved before run.state → ChildrenMoved states next.states
+      → ChildrenMoved (state_then before states) (try_ended run states next o).states
   moved-ended before states run next None h hs = moved-then before run.state states next.states h hs
   moved-ended before states run next (Some up) h hs = moved-then before run.state states states h (all-stay states)
 
-  moved-try : (before : State M G) (states : States M G) (run : Run M G) (next : Below M G) (o : Option End) → Moved before run.state → ChildrenMoved states next.states → ChildrenMoved (state_then before states) (try_run run states next o).states
+  moved-try : (before : State M G) (states : States M G) (run : Run M G) (next : Below M G) (o : Option End) → Moved before run.state → ChildrenMoved states next.states
+      → ChildrenMoved (state_then before states) (try_run run states next o).states
   moved-try before states run next None h hs = moved-then before run.state states states h (all-stay states)
   moved-try before states run next (Some end) h hs = moved-ended before states run next (next_try (is_left states) end) h hs
 
-  moved-sub : (before : State M G) (run : Run M G) (plans : Plans M G) (next : Below M G) (o : Option End) → Moved before run.state → ChildrenMoved (waiting_states plans) next.states → ChildrenMoved (state_then before (waiting_states plans)) (sub_started run plans next o).states
+  moved-sub : (before : State M G) (run : Run M G) (plans : Plans M G) (next : Below M G) (o : Option End) → Moved before run.state → ChildrenMoved (waiting_states plans) next.states
+      → ChildrenMoved (state_then before (waiting_states plans)) (sub_started run plans next o).states
   moved-sub before run plans next None h hs = moved-then before run.state (waiting_states plans) next.states h hs
   moved-sub before run plans next (Some end) h hs = moved-then before run.state (waiting_states plans) (waiting_states plans) h (all-stay (waiting_states plans))
 
-  subs-start : (node : ℕ) (plans : Plans M G) (asked : List Mapped) (lim : Limits) (merges : List G) (ends : List (Option End)) → ChildrenMoved (waiting_states plans) (start_subs kinds node plans call asked lim merges m ends).states
+  subs-start : (node : ℕ) (plans : Plans M G) (asked : List Mapped) (lim : Limits) (merges : List G) (ends : List (Option End))
+      → ChildrenMoved (waiting_states plans) (start_subs kinds node plans call asked lim merges m ends).states
   subs-start node last_plan asked lim merges ends = all-stay last_state
   subs-start node (plan_then plan plans) (answer.Send request ∷ asked) lim merges ends =
       let run = start_at kinds node plan call request m in
       let now = ends ++ end_of run.state ∷ [] in
-      moved-sub (waits plan) run plans (start_subs kinds (node + nodes plan) plans call asked lim merges m now) (where_ended (end_of run.state) (judged kinds lim merges now)) (started node plan request) (subs-start (node + nodes plan) plans asked lim merges now)
-  subs-start node (plan_then plan plans) (answer.Skip ∷ asked) lim merges ends = moved-then (waits plan) (waits plan) (waiting_states plans) _ (inl refl) (subs-start (node + nodes plan) plans asked lim merges (ends ++ None ∷ []))
-  subs-start node (plan_then plan plans) (answer.Bad ∷ asked) lim merges ends = moved-then (waits plan) (waits plan) (waiting_states plans) _ (inl refl) (subs-start (node + nodes plan) plans asked lim merges (ends ++ None ∷ []))
-  subs-start node (plan_then plan plans) [] lim merges ends = moved-then (waits plan) (waits plan) (waiting_states plans) _ (inl refl) (subs-start (node + nodes plan) plans [] lim merges (ends ++ None ∷ []))
+      moved-sub (waits plan) run plans (start_subs kinds (node + nodes plan) plans call asked lim merges m now) (where_ended (end_of run.state) (judged kinds lim merges now))
+      (started node plan request) (subs-start (node + nodes plan) plans asked lim merges now)
+  subs-start node (plan_then plan plans) (answer.Skip ∷ asked) lim merges ends = moved-then (waits plan) (waits plan) (waiting_states plans) _ (inl refl)
+      (subs-start (node + nodes plan) plans asked lim merges (ends ++ None ∷ []))
+  subs-start node (plan_then plan plans) (answer.Bad ∷ asked) lim merges ends = moved-then (waits plan) (waits plan) (waiting_states plans) _ (inl refl)
+      (subs-start (node + nodes plan) plans asked lim merges (ends ++ None ∷ []))
+  subs-start node (plan_then plan plans) [] lim merges ends = moved-then (waits plan) (waits plan) (waiting_states plans) _ (inl refl)
+      (subs-start (node + nodes plan) plans [] lim merges (ends ++ None ∷ []))
 
   tries-start : (node : ℕ) (plans : Plans M G) (request : List ℕ) → ChildrenMoved (waiting_states plans) (start_tries kinds node plans call request m).states
   tries-start node last_plan request = all-stay last_state
   tries-start node (plan_then plan plans) request =
       let run = start_at kinds node plan call request m in
-      moved-try (waits plan) (waiting_states plans) run (start_tries kinds (node + nodes plan) plans call request m) (end_of run.state) (started node plan request) (tries-start (node + nodes plan) plans request)
+      moved-try (waits plan) (waiting_states plans) run (start_tries kinds (node + nodes plan) plans call request m) (end_of run.state) (started node plan request)
+      (tries-start (node + nodes plan) plans request)
 
   waiting-start : (node : ℕ) (states : States M G) (request : List ℕ) → ChildrenMoved states (start_waiting kinds node states call request m).states
   waiting-start node last_state request = all-stay last_state
   waiting-start node (state_then (waits plan) states) request =
       let run = start_at kinds node plan call request m in
-      moved-try (waits plan) states run (start_waiting kinds (node + nodes plan) states call request m) (end_of run.state) (started node plan request) (waiting-start (node + nodes plan) states request)
+      moved-try (waits plan) states run (start_waiting kinds (node + nodes plan) states call request m) (end_of run.state) (started node plan request)
+      (waiting-start (node + nodes plan) states request)
   waiting-start node (state_then (leaf_state chan q leaf) states) request = all-stay (state_then (leaf_state chan q leaf) states)
   waiting-start node (state_then (par_state par below) states) request = all-stay (state_then (par_state par below) states)
   waiting-start node (state_then (sel_state sel below) states) request = all-stay (state_then (sel_state sel below) states)
@@ -109,29 +119,35 @@ module _ {M G : Type 0} (kinds : Kinds M G) (call : ℕ) (e : Event) (m : ℕ) w
   tries-step node (state_then state states) request =
       let run = step_at kinds node state call e m in
       moved-either (state_then state states) (nat_lt (node_of e) (node + size state)) _ _
-      (moved-try state states run (start_waiting kinds (node + size state) states call request m) (new_end (end_of state) (end_of run.state)) (stepped node state) (waiting-start (node + size state) states request))
+      (moved-try state states run (start_waiting kinds (node + size state) states call request m) (new_end (end_of state) (end_of run.state)) (stepped node state)
+      (waiting-start (node + size state) states request))
       (moved-then state state states _ (inl refl) (tries-step (node + size state) states request))
 
   -- ---- a node at the end of a path
 
-  children-either : (before : States M G) (b : Bool) (p q : Run M G) → ChildrenMoved before (children p.state) → ChildrenMoved before (children q.state) → ChildrenMoved before (children (cond b p q).state)
+  children-either : (before : States M G) (b : Bool) (p q : Run M G) → ChildrenMoved before (children p.state) → ChildrenMoved before (children q.state)
+      → ChildrenMoved before (children (cond b p q).state)
   children-either before true p q hp hq = hp
   children-either before false p q hp hq = hq
 
-  children-open : (o : Option End) (state : State M G) (run : Run M G) → ChildrenMoved (children state) (children run.state) → ChildrenMoved (children state) (children (while_open o state run).state)
+  children-open : (o : Option End) (state : State M G) (run : Run M G) → ChildrenMoved (children state) (children run.state)
+      → ChildrenMoved (children state) (children (while_open o state run).state)
   children-open None state run h = h
   children-open (Some end) state run h = all-stay (children state)
 
   children-step : (number : ℕ) (state : State M G) → ChildrenMoved (children state) (children (step_at kinds number state call e m).state)
   children-step number (waits plan) = all-stay (waiting_states (plans_below plan))
   children-step number (leaf_state chan request leaf) =
-      children-either last_state (node_of e == number) (leaf_run chan call number request leaf (leaf_step chan.retry leaf e)) (quiet (leaf_state chan request leaf)) (all-stay last_state) (all-stay last_state)
+      children-either last_state (node_of e == number) (leaf_run chan call number request leaf (leaf_step chan.retry leaf e)) (quiet (leaf_state chan request leaf)) (all-stay last_state)
+      (all-stay last_state)
   children-step number (par_state par states) =
       children-open par.end (par_state par states) _
-      (children-either states (node_of e == number) (par_at kinds par states e) (par_stepped kinds par (step_subs kinds (number + 1) states call e m)) (all-stay states) (subs-step (number + 1) states))
+      (children-either states (node_of e == number) (par_at kinds par states e) (par_stepped kinds par (step_subs kinds (number + 1) states call e m)) (all-stay states)
+      (subs-step (number + 1) states))
   children-step number (sel_state sel states) =
       children-open sel.end (sel_state sel states) _
-      (children-either states (node_of e == number) (sel_at sel states e) (sel_stepped sel (step_tries kinds (number + 1) states call e m sel.request)) (all-stay states) (tries-step (number + 1) states sel.request))
+      (children-either states (node_of e == number) (sel_at sel states e) (sel_stepped sel (step_tries kinds (number + 1) states call e m sel.request)) (all-stay states)
+      (tries-step (number + 1) states sel.request))
 
   par-begun : (plans : Plans M G) (below : Below M G) (o : Option End) → ChildrenMoved (waiting_states plans) below.states → ChildrenMoved (waiting_states plans) (par_started plans below o).states
   par-begun plans below None h = h
@@ -157,7 +173,8 @@ module _ {M G : Type 0} (kinds : Kinds M G) (call : ℕ) (e : Event) (m : ℕ) w
   children-moved before now (inl same) = subst (λ s. ChildrenMoved (children before) (children s)) (sym same) (all-stay (children before))
   children-moved before now (inr (inl (number, is))) = subst (λ s. ChildrenMoved (children before) (children s)) (sym is) (children-step number before)
   children-moved before now (inr (inr (number, plan, request, was, is))) =
-      subst (λ s. ChildrenMoved (children before) (children s)) (sym is) (subst (λ s. ChildrenMoved (children s) (children (start_at kinds number plan call request m).state)) (sym was) (children-start number plan request))
+      subst (λ s. ChildrenMoved (children before) (children s)) (sym is) (subst (λ s. ChildrenMoved (children s) (children (start_at kinds number plan call request m).state)) (sym was)
+      (children-start number plan request))
 
   pub node-moved : (path : List ℕ) → Follows path
   node-moved [] before now h = h

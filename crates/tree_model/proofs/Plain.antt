@@ -22,7 +22,8 @@ use Rattle.rpc_model.specs.Machine as plain_machine
 use Rattle.rpc_model.specs.Marks as plain_marks
 use Rattle.rpc_model.specs.Told as plain_told
 use Rattle.rpc_model.specs.Early.{IsSparse, AreSparse}
-use Rattle.rpc_model.proofs.Early.{least-length, taken-waits, after-sparse}
+use Rattle.rpc_model.proofs.Early.{after-sparse}
+use Rattle.rpc_model.proofs.Weaves.{least-length, taken-waits}
 use Rattle.tree_model.specs.declared.kinds.MapKind.{MapKind}
 use Rattle.tree_model.specs.declared.kinds.MergeKind.{MergeKind}
 use Rattle.tree_model.specs.declared.chan.Chan.{Chan}
@@ -65,12 +66,14 @@ at-leaf : (call : ℕ) (leaf : LeafChan) (request : List ℕ) (l : Leaf) (waitin
     record { call = call; plan = leaf_plan leaf; state = run.state; waiting = set_all run.marks (sorted waiting) })
     ≡ (let run = cond v (plain_machine.leaf_run leaf call 0 request l (leaf_step leaf.retry l e)) (plain_machine.quiet (plain_machine.leaf_state l)) in
     tree_call (record { call = call; plan = plain.leaf_plan leaf; request = request; state = run.state; waiting = waiting ++ run.marks }))
-at-leaf call leaf request l waiting e true = ap (λ w. record { call = call; plan = leaf_plan leaf; state = leaf_state leaf request (leaf_step leaf.retry l e); waiting = sorted w }) (sym (append-nil waiting))
+at-leaf call leaf request l waiting e true = ap (λ w. record { call = call; plan = leaf_plan leaf; state = leaf_state leaf request (leaf_step leaf.retry l e); waiting = sorted w })
+    (sym (append-nil waiting))
 at-leaf call leaf request l waiting e false = ap (λ w. record { call = call; plan = leaf_plan leaf; state = leaf_state leaf request l; waiting = sorted w }) (sym (append-nil waiting))
 
 same-step : (call : ℕ) (p : plain.Plan) (request : List ℕ) (state : plain_machine.State) (waiting : List Mark) (e : Event) (m : ℕ)
     → let b : plain_marks.Begun = record { call = call; plan = p; request = request; state = state; waiting = waiting } in apply (tree_call b) e m ≡ tree_call (plain_marks.apply b e m)
-same-step call (plain.leaf_plan leaf) request (plain_machine.leaf_state l) waiting (event.Reply node attempt code text) m = at-leaf call leaf request l waiting (event.Reply node attempt code text) (node == 0)
+same-step call (plain.leaf_plan leaf) request (plain_machine.leaf_state l) waiting (event.Reply node attempt code text) m = at-leaf call leaf request l waiting (event.Reply node attempt code text)
+    (node == 0)
 same-step call (plain.leaf_plan leaf) request (plain_machine.leaf_state l) waiting (event.Lost node attempt code) m = at-leaf call leaf request l waiting (event.Lost node attempt code) (node == 0)
 same-step call (plain.leaf_plan leaf) request (plain_machine.leaf_state l) waiting (event.Backup node) m = at-leaf call leaf request l waiting (event.Backup node) (node == 0)
 same-step call (plain.leaf_plan leaf) request (plain_machine.leaf_state l) waiting (event.Deadline node) m = at-leaf call leaf request l waiting (event.Deadline node) (node == 0)
@@ -102,7 +105,8 @@ same-least (x ∷ y ∷ z ∷ marks) few = absurd (omega (arith, few))
 same-take : (b : plain_marks.Begun) (mark : Mark) (others : List Mark) → take_mark (tree_call b) mark (sorted others) ≡ tree_call (plain_marks.take_mark b mark others)
 same-take b mark others = same-event mark.kind
   where
-    same-event : (kind : plain_machine.MarkKind) → apply (record (tree_call b) { waiting = sorted others }) (mark_event mark.node kind) mark.moment ≡ tree_call (plain_marks.apply (record b { waiting = others }) (plain_marks.mark_event mark.node kind) mark.moment)
+    same-event : (kind : plain_machine.MarkKind) → apply (record (tree_call b) { waiting = sorted others }) (mark_event mark.node kind) mark.moment
+        ≡ tree_call (plain_marks.apply (record b { waiting = others }) (plain_marks.mark_event mark.node kind) mark.moment)
     same-event plain_machine.deadline = same-apply (record b { waiting = others }) (event.Deadline mark.node) mark.moment
     same-event plain_machine.backup = same-apply (record b { waiting = others }) (event.Backup mark.node) mark.moment
 
@@ -116,7 +120,8 @@ few-left b few = let l = set_all-length b.waiting [] in let u = none-unstarted b
 most : (p : plain.Plan) → plain_marks.most_marks p ≡ 2
 most (plain.leaf_plan leaf) = refl
 
-fewer : (b : plain_marks.Begun) (mark : Mark) (others : List Mark) → plain_marks.least_mark b.waiting ≡ Some (mark, others) → length b.waiting ≤ 2 → length (plain_marks.take_mark b mark others).waiting ≤ 2
+fewer : (b : plain_marks.Begun) (mark : Mark) (others : List Mark) → plain_marks.least_mark b.waiting ≡ Some (mark, others) → length b.waiting ≤ 2
+    → length (plain_marks.take_mark b mark others).waiting ≤ 2
 fewer b mark others e few = let l = least-length b.waiting mark others e in let w = ap length (taken-waits b mark others) in omega (arith, l, w, few)
 
 -- ---- weaves and finishes
@@ -128,7 +133,8 @@ unfolding sorted_rest
 weave-met n m b None e few again = refl
 weave-met n m b (Some (mark, others)) e few again = due (nat_le mark.moment m)
   where
-    due : (v : Bool) → cond v (weave_at_most n m (take_mark (tree_call b) mark (sorted others))) (tree_call b) ≡ tree_call (cond v (plain_marks.weave_at_most n m (plain_marks.take_mark b mark others)) b)
+    due : (v : Bool) → cond v (weave_at_most n m (take_mark (tree_call b) mark (sorted others))) (tree_call b)
+        ≡ tree_call (cond v (plain_marks.weave_at_most n m (plain_marks.take_mark b mark others)) b)
     due true = ap (weave_at_most n m) (same-take b mark others) ∙ again (plain_marks.take_mark b mark others) (fewer b mark others e few)
     due false = refl
 
@@ -157,10 +163,13 @@ unfolding tree_finished
 finish-same zero r b few = refl
 finish-same (suc n) r b few =
     ap (λ end. cond (is_some end) (r, tree_call b) (finish_least (finish_at_most n) r (tree_call b) (least_mark (sorted b.waiting)))) (same-end b.plan b.request b.state)
-    ∙ over (is_some (plain_machine.end_of b.state)) (ap (finish_least (finish_at_most n) r (tree_call b)) (same-least b.waiting few) ∙ finish-met n r b (plain_marks.least_mark b.waiting) refl few (λ s d hd. finish-same n s d hd))
+    ∙ over (is_some (plain_machine.end_of b.state)) (ap (finish_least (finish_at_most n) r (tree_call b)) (same-least b.waiting few) ∙ finish-met n r b (plain_marks.least_mark b.waiting) refl few
+    (λ s d hd. finish-same n s d hd))
   where
-    over : (v : Bool) → finish_least (finish_at_most n) r (tree_call b) (least_mark (sorted b.waiting)) ≡ tree_finished (plain_marks.finish_least (plain_marks.finish_at_most n) r b (plain_marks.least_mark b.waiting))
-        → cond v (r, tree_call b) (finish_least (finish_at_most n) r (tree_call b) (least_mark (sorted b.waiting))) ≡ tree_finished (cond v (r, b) (plain_marks.finish_least (plain_marks.finish_at_most n) r b (plain_marks.least_mark b.waiting)))
+    over : (v : Bool) → finish_least (finish_at_most n) r (tree_call b) (least_mark (sorted b.waiting))
+        ≡ tree_finished (plain_marks.finish_least (plain_marks.finish_at_most n) r b (plain_marks.least_mark b.waiting))
+        → cond v (r, tree_call b) (finish_least (finish_at_most n) r (tree_call b) (least_mark (sorted b.waiting))) ≡ tree_finished
+        (cond v (r, b) (plain_marks.finish_least (plain_marks.finish_at_most n) r b (plain_marks.least_mark b.waiting)))
     over true h = refl
     over false h = h
 
@@ -204,7 +213,8 @@ same-joined : (r : ℕ) (s : plain_told.Standing) → IsSparse s → tree.joined
 unfolding tree_finished
 same-joined r (plain_told.begun b) few =
     let d = (plain_marks.finish r b).1 in
-    ap (λ (p : ℕ × Begun). tree.stand_joined p.1 (end_of p.1.state)) (same-finish r b (two b few)) ∙ ap (tree.stand_joined (tree_call d)) (same-end d.plan d.request d.state) ∙ stands-joined d (plain_machine.end_of d.state)
+    ap (λ (p : ℕ × Begun). tree.stand_joined p.1 (end_of p.1.state)) (same-finish r b (two b few)) ∙ ap (tree.stand_joined (tree_call d)) (same-end d.plan d.request d.state) ∙ stands-joined d
+    (plain_machine.end_of d.state)
 same-joined r (plain_told.full call) few = refl
 same-joined r (plain_told.told_of call) few = refl
 
@@ -228,21 +238,25 @@ unfolding tree_finished
 same-told r None few = refl
 same-told r (Some (plain_told.begun b)) few =
     let d = (plain_marks.finish r b).1 in
-    ap (λ (p : ℕ × Begun). tree.join_end p.1 (end_of p.1.state) ∷ []) (same-finish r b (two b few)) ∙ ap (λ o. tree.join_end (tree_call d) o ∷ []) (same-end d.plan d.request d.state) ∙ ap (λ t. t ∷ []) (told-end d (plain_machine.end_of d.state))
+    ap (λ (p : ℕ × Begun). tree.join_end p.1 (end_of p.1.state) ∷ []) (same-finish r b (two b few)) ∙ ap (λ o. tree.join_end (tree_call d) o ∷ []) (same-end d.plan d.request d.state) ∙ ap
+    (λ t. t ∷ []) (told-end d (plain_machine.end_of d.state))
 same-told r (Some (plain_told.full call)) few = refl
 same-told r (Some (plain_told.told_of call)) few = refl
 
 -- ---- lists of calls
 
-change-same : (c : ℕ) (f : plain_told.Standing → plain_told.Standing) (g : tree.Standing → tree.Standing) (xs : List plain_told.Standing) → AllByRecursion IsSparse xs → ((s : plain_told.Standing) → IsSparse s → g (tree_standing s) ≡ tree_standing (f s))
+change-same : (c : ℕ) (f : plain_told.Standing → plain_told.Standing) (g : tree.Standing → tree.Standing) (xs : List plain_told.Standing) → AllByRecursion IsSparse xs
+    → ((s : plain_told.Standing) → IsSparse s → g (tree_standing s) ≡ tree_standing (f s))
     → tree.change_first (tree.is_call c) g (map tree_standing xs) ≡ map tree_standing (plain_told.change_first (plain_told.is_call c) f xs)
 change-same c f g [] few same = refl
 change-same c f g (x ∷ xs) few same =
     ap (λ v. cond v (g (tree_standing x) ∷ map tree_standing xs) (tree_standing x ∷ tree.change_first (tree.is_call c) g (map tree_standing xs))) (same-call c x)
     ∙ by (plain_told.is_call c x) (same x few.0) (change-same c f g xs few.1 same)
   where
-    by : (v : Bool) → g (tree_standing x) ≡ tree_standing (f x) → tree.change_first (tree.is_call c) g (map tree_standing xs) ≡ map tree_standing (plain_told.change_first (plain_told.is_call c) f xs)
-        → cond v (g (tree_standing x) ∷ map tree_standing xs) (tree_standing x ∷ tree.change_first (tree.is_call c) g (map tree_standing xs)) ≡ map tree_standing (cond v (f x ∷ xs) (x ∷ plain_told.change_first (plain_told.is_call c) f xs))
+    by : (v : Bool) → g (tree_standing x) ≡ tree_standing (f x) → tree.change_first (tree.is_call c) g (map tree_standing xs)
+        ≡ map tree_standing (plain_told.change_first (plain_told.is_call c) f xs)
+        → cond v (g (tree_standing x) ∷ map tree_standing xs) (tree_standing x ∷ tree.change_first (tree.is_call c) g (map tree_standing xs)) ≡ map tree_standing
+        (cond v (f x ∷ xs) (x ∷ plain_told.change_first (plain_told.is_call c) f xs))
     by true here more = ap (λ s. s ∷ map tree_standing xs) here
     by false here more = ap (λ ss. tree_standing x ∷ ss) more
 
@@ -295,27 +309,34 @@ stand-new : (v : Bool) (call : ℕ) (p : plain.Plan) (text : List ℕ) (m : ℕ)
 stand-new true call p text m = refl
 stand-new false call p text m = ap tree.begun (same-begin call p text m)
 
-call-after : (script : PlainScript) (replay : plain_told.Replay) (m call : ℕ) (text : List ℕ) (o : Option plain.Plan) → tree.call_after (script_of script) (tree_replay replay) m call text (option_map tree_plan o) ≡ tree_replay (plain_told.call_after script replay m call text o)
+call-after : (script : PlainScript) (replay : plain_told.Replay) (m call : ℕ) (text : List ℕ) (o : Option plain.Plan)
+    → tree.call_after (script_of script) (tree_replay replay) m call text (option_map tree_plan o) ≡ tree_replay (plain_told.call_after script replay m call text o)
 call-after script replay m call text None = refl
 call-after script replay m call text (Some p) =
     ap (λ ss. record { reached = m; calls = ss })
     (ap (λ v. map tree_standing replay.calls ++ tree.stand_new v call (tree_plan p) text m ∷ []) (same-full script replay)
-    ∙ ap (λ s. map tree_standing replay.calls ++ s ∷ []) (stand-new (plain_told.is_full script replay) call p text m) ∙ sym (map-append tree_standing replay.calls (plain_told.stand_new (plain_told.is_full script replay) call p text m ∷ [])))
+    ∙ ap (λ s. map tree_standing replay.calls ++ s ∷ []) (stand-new (plain_told.is_full script replay) call p text m) ∙ sym
+    (map-append tree_standing replay.calls (plain_told.stand_new (plain_told.is_full script replay) call p text m ∷ [])))
 
 event-line : (replay : plain_told.Replay) (m call : ℕ) (e : Event) → AreSparse replay → tree.call_event (tree_replay replay) m call e ≡ tree_replay (plain_told.call_event replay m call e)
-event-line replay m call e few = ap (λ ss. record { reached = m; calls = ss }) (change-same call (plain_told.event_after e m) (tree.event_after e m) replay.calls few (λ s fits. same-event e m s fits))
+event-line replay m call e few = ap (λ ss. record { reached = m; calls = ss }) (change-same call (plain_told.event_after e m) (tree.event_after e m) replay.calls few
+    (λ s fits. same-event e m s fits))
 
 join-line : (replay : plain_told.Replay) (call : ℕ) → AreSparse replay → tree.call_join (tree_replay replay) call ≡ tree_replay (plain_told.call_join replay call)
 join-line replay call few =
-    ap (λ o. record { reached = tree.joined_moment replay.reached o; calls = tree.change_first (tree.is_call call) (tree.joined replay.reached) (map tree_standing replay.calls) }) (find-same call replay.calls)
-    ∙ ap (λ r. record { reached = r; calls = tree.change_first (tree.is_call call) (tree.joined replay.reached) (map tree_standing replay.calls) }) (same-moment replay.reached (find (plain_told.is_call call) replay.calls) (sparse-found call replay.calls few))
+    ap (λ o. record { reached = tree.joined_moment replay.reached o; calls = tree.change_first (tree.is_call call) (tree.joined replay.reached) (map tree_standing replay.calls) })
+    (find-same call replay.calls)
+    ∙ ap (λ r. record { reached = r; calls = tree.change_first (tree.is_call call) (tree.joined replay.reached) (map tree_standing replay.calls) })
+    (same-moment replay.reached (find (plain_told.is_call call) replay.calls) (sparse-found call replay.calls few))
     ∙ ap (λ ss. record { reached = plain_told.joined_moment replay.reached (find (plain_told.is_call call) replay.calls); calls = ss })
     (change-same call (plain_told.joined replay.reached) (tree.joined replay.reached) replay.calls few (λ s fits. same-joined replay.reached s fits))
 
-same-after : (script : PlainScript) (replay : plain_told.Replay) (act : Act) → AreSparse replay → tree.after (script_of script) (tree_replay replay) act ≡ tree_replay (plain_told.after script replay act)
+same-after : (script : PlainScript) (replay : plain_told.Replay) (act : Act) → AreSparse replay → tree.after (script_of script) (tree_replay replay) act
+    ≡ tree_replay (plain_told.after script replay act)
 unfolding tree.after plain_told.after
 same-after script replay (Call at call chan text) few =
-    ap (tree.call_after (script_of script) (tree_replay replay) (max replay.reached at) call text) (same-plan script.chans chan call) ∙ call-after script replay (max replay.reached at) call text (plain.plan script.chans chan call)
+    ap (tree.call_after (script_of script) (tree_replay replay) (max replay.reached at) call text) (same-plan script.chans chan call) ∙ call-after script replay (max replay.reached at) call text
+    (plain.plan script.chans chan call)
 same-after script replay (Cancel at call) few = event-line replay (max replay.reached at) call event.Cancel few
 same-after script replay (Reply at call node attempt code text) few = event-line replay (max replay.reached at) call (event.Reply node attempt code text) few
 same-after script replay (Lose at call node attempt code) few = event-line replay (max replay.reached at) call (event.Lost node attempt code) few
@@ -333,21 +354,25 @@ call-told v call (Some p) = new-told v call
 same-tells : (script : PlainScript) (replay : plain_told.Replay) (act : Act) → AreSparse replay → tree.tells (script_of script) (tree_replay replay) act ≡ plain_told.tells script replay act
 unfolding tree.tells plain_told.tells
 same-tells script replay (Call at call chan text) few =
-    ap (λ v. tree.call_tells v call (plan (map chan_of script.chans) chan call)) (same-full script replay) ∙ ap (tree.call_tells (plain_told.is_full script replay) call) (same-plan script.chans chan call)
+    ap (λ v. tree.call_tells v call (plan (map chan_of script.chans) chan call)) (same-full script replay) ∙ ap (tree.call_tells (plain_told.is_full script replay) call)
+    (same-plan script.chans chan call)
     ∙ call-told (plain_told.is_full script replay) call (plain.plan script.chans chan call)
 same-tells script replay (Cancel at call) few = refl
 same-tells script replay (Reply at call node attempt code text) few = refl
 same-tells script replay (Lose at call node attempt code) few = refl
 same-tells script replay (Tick at) few = refl
-same-tells script replay (Join call) few = ap (tree.join_tells replay.reached) (find-same call replay.calls) ∙ same-told replay.reached (find (plain_told.is_call call) replay.calls) (sparse-found call replay.calls few)
+same-tells script replay (Join call) few = ap (tree.join_tells replay.reached) (find-same call replay.calls) ∙ same-told replay.reached (find (plain_told.is_call call) replay.calls)
+    (sparse-found call replay.calls few)
 
 -- ---- all lines
 
-lines-same : (script : PlainScript) (replay : plain_told.Replay) (acts : List Act) → AreSparse replay → plain_told.told_from script replay acts ≡ tree.told_from (script_of script) (tree_replay replay) acts
+lines-same : (script : PlainScript) (replay : plain_told.Replay) (acts : List Act) → AreSparse replay → plain_told.told_from script replay acts
+    ≡ tree.told_from (script_of script) (tree_replay replay) acts
 lines-same script replay [] few = refl
 lines-same script replay (act ∷ acts) few =
     let next = plain_told.after script replay act in
-    ap (λ ts. ts ++ plain_told.told_from script next acts) (sym (same-tells script replay act few)) ∙ ap (λ ts. tree.tells (script_of script) (tree_replay replay) act ++ ts) (lines-same script next acts (after-sparse script replay act few))
+    ap (λ ts. ts ++ plain_told.told_from script next acts) (sym (same-tells script replay act few)) ∙ ap (λ ts. tree.tells (script_of script) (tree_replay replay) act ++ ts)
+    (lines-same script next acts (after-sparse script replay act few))
     ∙ ap (λ r. tree.tells (script_of script) (tree_replay replay) act ++ tree.told_from (script_of script) r acts) (sym (same-after script replay act few))
 
 pub plain-same : PlainScriptsTellTheSame

@@ -48,7 +48,8 @@ module _ {M G : Type 0} (kinds : Kinds M G) where
   from-then P state states h hs (inl g) = h g
   from-then P state states h hs (inr g) = hs g
 
-  from-ended : (P : Type 0) (run : Run M G) (states : States M G) (next : Below M G) (o : Option End) → From P run → (HaveGoodLeaf states → P) → AreFrom P next → AreFrom P (try_ended run states next o)
+  from-ended : (P : Type 0) (run : Run M G) (states : States M G) (next : Below M G) (o : Option End) → From P run → (HaveGoodLeaf states → P) → AreFrom P next
+      → AreFrom P (try_ended run states next o)
   from-ended P run states next None h hs hn g = from-then P run.state next.states h hn g
   from-ended P run states next (Some up) h hs hn g = from-then P run.state states h hs g
 
@@ -68,15 +69,18 @@ module _ {M G : Type 0} (kinds : Kinds M G) where
     pub start-from : (node : ℕ) (plan : Plan M G) (call : ℕ) (request : List ℕ) (m : ℕ) → From ⊥ (start_at kinds node plan call request m)
     start-from node (leaf_plan leaf) call request m g = g
     start-from node (par_plan rule plans) call request m g =
-        from-par plans _ (refused (mapped kinds.map rule.maps request)) (subs-from (node + 1) plans call (mapped kinds.map rule.maps request) (limits rule (mapped kinds.map rule.maps request)) rule.merges m []) g
+        from-par plans _ (refused (mapped kinds.map rule.maps request)) (subs-from (node + 1) plans call (mapped kinds.map rule.maps request)
+        (limits rule (mapped kinds.map rule.maps request)) rule.merges m []) g
     start-from node (sel_plan timeout plans) call request m g = tries-from (node + 1) plans call request m g
 
-    subs-from : (node : ℕ) (plans : Plans M G) (call : ℕ) (asked : List Mapped) (lim : Limits) (merges : List G) (m : ℕ) (ends : List (Option End)) → AreFrom ⊥ (start_subs kinds node plans call asked lim merges m ends)
+    subs-from : (node : ℕ) (plans : Plans M G) (call : ℕ) (asked : List Mapped) (lim : Limits) (merges : List G) (m : ℕ) (ends : List (Option End))
+        → AreFrom ⊥ (start_subs kinds node plans call asked lim merges m ends)
     subs-from node last_plan call asked lim merges m ends g = g
     subs-from node (plan_then plan plans) call (answer.Send request ∷ asked) lim merges m ends g =
         let run = start_at kinds node plan call request m in
         let now = ends ++ end_of run.state ∷ [] in
-        from-sub run plans (start_subs kinds (node + nodes plan) plans call asked lim merges m now) (where_ended (end_of run.state) (judged kinds lim merges now)) (start-from node plan call request m)
+        from-sub run plans (start_subs kinds (node + nodes plan) plans call asked lim merges m now) (where_ended (end_of run.state) (judged kinds lim merges now))
+        (start-from node plan call request m)
         (subs-from (node + nodes plan) plans call asked lim merges m now) g
     subs-from node (plan_then plan plans) call (answer.Skip ∷ asked) lim merges m ends (inl g) = g
     subs-from node (plan_then plan plans) call (answer.Skip ∷ asked) lim merges m ends (inr g) = subs-from (node + nodes plan) plans call asked lim merges m (ends ++ None ∷ []) g
@@ -151,13 +155,17 @@ module _ {M G : Type 0} (kinds : Kinds M G) where
         (λ here h. leaf-from chan.retry node leaf e leaf.end refl (same-node (node_of e) node here) h) (λ h. inl h) g
     step-from node (par_state par states) call e m g =
         from-open (HaveGoodLeaf states ⊎ ((par.end ≡ None) × AnswersOneOf (node + 1) states e)) par.end (par_state par states) _ (λ h. inl h)
-        (λ none. from-either (HaveGoodLeaf states ⊎ ((par.end ≡ None) × AnswersOneOf (node + 1) states e)) (node_of e == node) (par_at kinds par states e) (par_stepped kinds par (step_subs kinds (node + 1) states call e m)) (λ here h. inl h)
-        (lift (HaveGoodLeaf states) (AnswersOneOf (node + 1) states e) (HaveGoodLeaf (step_subs kinds (node + 1) states call e m).states) (subs-step-from (node + 1) states call e m) (HaveGoodLeaf states) ((par.end ≡ None) × AnswersOneOf (node + 1) states e) (λ p. p) (λ q. (none, q))))
+        (λ none. from-either (HaveGoodLeaf states ⊎ ((par.end ≡ None) × AnswersOneOf (node + 1) states e)) (node_of e == node) (par_at kinds par states e)
+        (par_stepped kinds par (step_subs kinds (node + 1) states call e m)) (λ here h. inl h)
+        (lift (HaveGoodLeaf states) (AnswersOneOf (node + 1) states e) (HaveGoodLeaf (step_subs kinds (node + 1) states call e m).states) (subs-step-from (node + 1) states call e m)
+        (HaveGoodLeaf states) ((par.end ≡ None) × AnswersOneOf (node + 1) states e) (λ p. p) (λ q. (none, q))))
         g
     step-from node (sel_state sel states) call e m g =
         from-open (HaveGoodLeaf states ⊎ ((sel.end ≡ None) × AnswersOneOf (node + 1) states e)) sel.end (sel_state sel states) _ (λ h. inl h)
-        (λ none. from-either (HaveGoodLeaf states ⊎ ((sel.end ≡ None) × AnswersOneOf (node + 1) states e)) (node_of e == node) (sel_at sel states e) (sel_stepped sel (step_tries kinds (node + 1) states call e m sel.request)) (λ here h. inl h)
-        (lift (HaveGoodLeaf states) (AnswersOneOf (node + 1) states e) (HaveGoodLeaf (step_tries kinds (node + 1) states call e m sel.request).states) (tries-step-from (node + 1) states call e m sel.request) (HaveGoodLeaf states) ((sel.end ≡ None) × AnswersOneOf (node + 1) states e) (λ p. p) (λ q. (none, q))))
+        (λ none. from-either (HaveGoodLeaf states ⊎ ((sel.end ≡ None) × AnswersOneOf (node + 1) states e)) (node_of e == node) (sel_at sel states e)
+        (sel_stepped sel (step_tries kinds (node + 1) states call e m sel.request)) (λ here h. inl h)
+        (lift (HaveGoodLeaf states) (AnswersOneOf (node + 1) states e) (HaveGoodLeaf (step_tries kinds (node + 1) states call e m sel.request).states)
+        (tries-step-from (node + 1) states call e m sel.request) (HaveGoodLeaf states) ((sel.end ≡ None) × AnswersOneOf (node + 1) states e) (λ p. p) (λ q. (none, q))))
         g
 
     subs-step-from : (node : ℕ) (states : States M G) (call : ℕ) (e : Event) (m : ℕ) → AreFrom (HaveGoodLeaf states ⊎ AnswersOneOf node states e) (step_subs kinds node states call e m)
@@ -165,22 +173,29 @@ module _ {M G : Type 0} (kinds : Kinds M G) where
     subs-step-from node (state_then state states) call e m g =
         from-below (HaveGoodLeaf (state_then state states) ⊎ AnswersOneOf node (state_then state states) e) (nat_lt (node_of e) (node + size state)) _ _
         (λ h. from-then (HaveGoodLeaf (state_then state states) ⊎ AnswersOneOf node (state_then state states) e) (step_at kinds node state call e m).state states
-        (lift (HasGoodLeaf state) (Answers node state e) (HasGoodLeaf (step_at kinds node state call e m).state) (step-from node state call e m) (HaveGoodLeaf (state_then state states)) (AnswersOneOf node (state_then state states) e) (λ p. inl p) (λ q. inl q))
+        (lift (HasGoodLeaf state) (Answers node state e) (HasGoodLeaf (step_at kinds node state call e m).state) (step-from node state call e m) (HaveGoodLeaf (state_then state states))
+        (AnswersOneOf node (state_then state states) e) (λ p. inl p) (λ q. inl q))
         (λ p. inl (inr p)) h)
         (λ h. from-then (HaveGoodLeaf (state_then state states) ⊎ AnswersOneOf node (state_then state states) e) state (step_subs kinds (node + size state) states call e m).states (λ p. inl (inl p))
-        (lift (HaveGoodLeaf states) (AnswersOneOf (node + size state) states e) (HaveGoodLeaf (step_subs kinds (node + size state) states call e m).states) (subs-step-from (node + size state) states call e m) (HaveGoodLeaf (state_then state states)) (AnswersOneOf node (state_then state states) e) (λ p. inr p) (λ q. inr q)) h)
+        (lift (HaveGoodLeaf states) (AnswersOneOf (node + size state) states e) (HaveGoodLeaf (step_subs kinds (node + size state) states call e m).states)
+        (subs-step-from (node + size state) states call e m) (HaveGoodLeaf (state_then state states)) (AnswersOneOf node (state_then state states) e) (λ p. inr p) (λ q. inr q)) h)
         g
 
-    tries-step-from : (node : ℕ) (states : States M G) (call : ℕ) (e : Event) (m : ℕ) (request : List ℕ) → AreFrom (HaveGoodLeaf states ⊎ AnswersOneOf node states e) (step_tries kinds node states call e m request)
+    tries-step-from : (node : ℕ) (states : States M G) (call : ℕ) (e : Event) (m : ℕ) (request : List ℕ)
+        → AreFrom (HaveGoodLeaf states ⊎ AnswersOneOf node states e) (step_tries kinds node states call e m request)
     tries-step-from node last_state call e m request g = absurd g
     tries-step-from node (state_then state states) call e m request g =
         let run = step_at kinds node state call e m in
         from-below (HaveGoodLeaf (state_then state states) ⊎ AnswersOneOf node (state_then state states) e) (nat_lt (node_of e) (node + size state)) _ _
-        (from-try (HaveGoodLeaf (state_then state states) ⊎ AnswersOneOf node (state_then state states) e) run states (start_waiting kinds (node + size state) states call request m) (new_end (end_of state) (end_of run.state))
-        (lift (HasGoodLeaf state) (Answers node state e) (HasGoodLeaf (step_at kinds node state call e m).state) (step-from node state call e m) (HaveGoodLeaf (state_then state states)) (AnswersOneOf node (state_then state states) e) (λ p. inl p) (λ q. inl q))
+        (from-try (HaveGoodLeaf (state_then state states) ⊎ AnswersOneOf node (state_then state states) e) run states (start_waiting kinds (node + size state) states call request m)
+        (new_end (end_of state) (end_of run.state))
+        (lift (HasGoodLeaf state) (Answers node state e) (HasGoodLeaf (step_at kinds node state call e m).state) (step-from node state call e m) (HaveGoodLeaf (state_then state states))
+        (AnswersOneOf node (state_then state states) e) (λ p. inl p) (λ q. inl q))
         (λ p. inl (inr p)) (λ p. inl (inr (waiting-from (node + size state) states call request m p))))
-        (λ h. from-then (HaveGoodLeaf (state_then state states) ⊎ AnswersOneOf node (state_then state states) e) state (step_tries kinds (node + size state) states call e m request).states (λ p. inl (inl p))
-        (lift (HaveGoodLeaf states) (AnswersOneOf (node + size state) states e) (HaveGoodLeaf (step_tries kinds (node + size state) states call e m request).states) (tries-step-from (node + size state) states call e m request) (HaveGoodLeaf (state_then state states)) (AnswersOneOf node (state_then state states) e) (λ p. inr p) (λ q. inr q)) h)
+        (λ h. from-then (HaveGoodLeaf (state_then state states) ⊎ AnswersOneOf node (state_then state states) e) state (step_tries kinds (node + size state) states call e m request).states
+        (λ p. inl (inl p))
+        (lift (HaveGoodLeaf states) (AnswersOneOf (node + size state) states e) (HaveGoodLeaf (step_tries kinds (node + size state) states call e m request).states)
+        (tries-step-from (node + size state) states call e m request) (HaveGoodLeaf (state_then state states)) (AnswersOneOf node (state_then state states) e) (λ p. inr p) (λ q. inr q)) h)
         g
 
   -- ---- a run
@@ -203,12 +218,14 @@ module _ {M G : Type 0} (kinds : Kinds M G) where
   call-step-from call state event.Cancel m g = inl (cancelled-from state g)
 
   -- A run reaches a good leaf from a good leaf, or by a live reply.
-  pub run-from : (call : ℕ) (events : List (Event × ℕ)) (run : Run M G) → HasGoodLeaf (fold (λ (r : Run M G) timed. and_then r (step kinds call r.state timed.0 timed.1)) run events).state → HasGoodLeaf run.state ⊎ HasLiveReply kinds call run.state events
+  pub run-from : (call : ℕ) (events : List (Event × ℕ)) (run : Run M G) → HasGoodLeaf (fold (λ (r : Run M G) timed. and_then r (step kinds call r.state timed.0 timed.1)) run events).state
+      → HasGoodLeaf run.state ⊎ HasLiveReply kinds call run.state events
   run-from call [] run g = inl g
   run-from call (timed ∷ events) run g = by (run-from call events (and_then run (step kinds call run.state timed.0 timed.1)) g) (call-step-from call run.state timed.0 timed.1)
     where
       by : HasGoodLeaf (step kinds call run.state timed.0 timed.1).state ⊎ HasLiveReply kinds call (step kinds call run.state timed.0 timed.1).state events
           → (HasGoodLeaf (step kinds call run.state timed.0 timed.1).state → HasGoodLeaf run.state ⊎ Answers 0 run.state timed.0)
           → HasGoodLeaf run.state ⊎ (Answers 0 run.state timed.0 ⊎ HasLiveReply kinds call (step kinds call run.state timed.0 timed.1).state events)
-      by (inl h) f = lift (HasGoodLeaf run.state) (Answers 0 run.state timed.0) (HasGoodLeaf (step kinds call run.state timed.0 timed.1).state) f (HasGoodLeaf run.state) (Answers 0 run.state timed.0 ⊎ HasLiveReply kinds call (step kinds call run.state timed.0 timed.1).state events) (λ p. p) (λ q. inl q) h
+      by (inl h) f = lift (HasGoodLeaf run.state) (Answers 0 run.state timed.0) (HasGoodLeaf (step kinds call run.state timed.0 timed.1).state) f (HasGoodLeaf run.state)
+          (Answers 0 run.state timed.0 ⊎ HasLiveReply kinds call (step kinds call run.state timed.0 timed.1).state events) (λ p. p) (λ q. inl q) h
       by (inr h) f = inr (inr h)

@@ -31,7 +31,8 @@ module _ {M G : Type 0} (kinds : Kinds M G) where
 
   -- ---- a start
 
-  of-sub : (request : List ℕ) (asked : List Mapped) (plan : Plan M G) (plans : Plans M G) (run : Run M G) (next : Below M G) (o : Option End) → IsOf kinds request plan run.state → SubsAreOf kinds asked plans next.states
+  of-sub : (request : List ℕ) (asked : List Mapped) (plan : Plan M G) (plans : Plans M G) (run : Run M G) (next : Below M G) (o : Option End) → IsOf kinds request plan run.state
+      → SubsAreOf kinds asked plans next.states
       → SubsAreOf kinds (answer.Send request ∷ asked) (plan_then plan plans) (sub_started run plans next o).states
   of-sub request asked plan plans run next None h hs = (h, hs)
   of-sub request asked plan plans run next (Some end) h hs = (h, subs-wait asked plans)
@@ -40,12 +41,14 @@ module _ {M G : Type 0} (kinds : Kinds M G) where
   of-par asked plans below None h = h
   of-par asked plans below (Some end) h = subs-wait asked plans
 
-  of-ended : (request : List ℕ) (plan : Plan M G) (plans : Plans M G) (run : Run M G) (states : States M G) (next : Below M G) (o : Option End) → IsOf kinds request plan run.state → TriesAreOf kinds request plans states → TriesAreOf kinds request plans next.states
+  of-ended : (request : List ℕ) (plan : Plan M G) (plans : Plans M G) (run : Run M G) (states : States M G) (next : Below M G) (o : Option End) → IsOf kinds request plan run.state
+      → TriesAreOf kinds request plans states → TriesAreOf kinds request plans next.states
       → TriesAreOf kinds request (plan_then plan plans) (try_ended run states next o).states
   of-ended request plan plans run states next None h hs hn = (h, hn)
   of-ended request plan plans run states next (Some up) h hs hn = (h, hs)
 
-  of-try : (request : List ℕ) (plan : Plan M G) (plans : Plans M G) (run : Run M G) (states : States M G) (next : Below M G) (o : Option End) → IsOf kinds request plan run.state → TriesAreOf kinds request plans states → TriesAreOf kinds request plans next.states
+  of-try : (request : List ℕ) (plan : Plan M G) (plans : Plans M G) (run : Run M G) (states : States M G) (next : Below M G) (o : Option End) → IsOf kinds request plan run.state
+      → TriesAreOf kinds request plans states → TriesAreOf kinds request plans next.states
       → TriesAreOf kinds request (plan_then plan plans) (try_run run states next o).states
   of-try request plan plans run states next None h hs hn = (h, hs)
   of-try request plan plans run states next (Some end) h hs hn = of-ended request plan plans run states next (next_try (is_left states) end) h hs hn
@@ -54,16 +57,22 @@ module _ {M G : Type 0} (kinds : Kinds M G) where
     pub start-of : (node : ℕ) (plan : Plan M G) (call : ℕ) (request : List ℕ) (m : ℕ) → IsOf kinds request plan (start_at kinds node plan call request m).state
     start-of node (leaf_plan leaf) call request m = (refl, refl)
     start-of node (par_plan rule plans) call request m =
-        let asked = mapped kinds.map rule.maps request in
-        (refl, refl, of-par asked plans (start_subs kinds (node + 1) plans call asked (limits rule asked) rule.merges m []) (refused asked) (subs-of (node + 1) plans call asked (limits rule asked) rule.merges m []))
+        let asked = mapped kinds.map rule.maps request in (
+          refl,
+          refl,
+          of-par asked plans (start_subs kinds (node + 1) plans call asked (limits rule asked) rule.merges m []) (refused asked)
+              (subs-of (node + 1) plans call asked (limits rule asked) rule.merges m []),
+        )
     start-of node (sel_plan timeout plans) call request m = (refl, tries-of (node + 1) plans call request m)
 
-    subs-of : (node : ℕ) (plans : Plans M G) (call : ℕ) (asked : List Mapped) (lim : Limits) (merges : List G) (m : ℕ) (ends : List (Option End)) → SubsAreOf kinds asked plans (start_subs kinds node plans call asked lim merges m ends).states
+    subs-of : (node : ℕ) (plans : Plans M G) (call : ℕ) (asked : List Mapped) (lim : Limits) (merges : List G) (m : ℕ) (ends : List (Option End))
+        → SubsAreOf kinds asked plans (start_subs kinds node plans call asked lim merges m ends).states
     subs-of node last_plan call asked lim merges m ends = tt
     subs-of node (plan_then plan plans) call (answer.Send request ∷ asked) lim merges m ends =
         let run = start_at kinds node plan call request m in
         let now = ends ++ end_of run.state ∷ [] in
-        of-sub request asked plan plans run (start_subs kinds (node + nodes plan) plans call asked lim merges m now) (where_ended (end_of run.state) (judged kinds lim merges now)) (start-of node plan call request m)
+        of-sub request asked plan plans run (start_subs kinds (node + nodes plan) plans call asked lim merges m now) (where_ended (end_of run.state) (judged kinds lim merges now))
+        (start-of node plan call request m)
         (subs-of (node + nodes plan) plans call asked lim merges m now)
     subs-of node (plan_then plan plans) call (answer.Skip ∷ asked) lim merges m ends = (refl, subs-of (node + nodes plan) plans call asked lim merges m (ends ++ None ∷ []))
     subs-of node (plan_then plan plans) call (answer.Bad ∷ asked) lim merges m ends = (refl, subs-of (node + nodes plan) plans call asked lim merges m (ends ++ None ∷ []))
@@ -73,11 +82,13 @@ module _ {M G : Type 0} (kinds : Kinds M G) where
     tries-of node last_plan call request m = tt
     tries-of node (plan_then plan plans) call request m =
         let run = start_at kinds node plan call request m in
-        of-try request plan plans run (waiting_states plans) (start_tries kinds (node + nodes plan) plans call request m) (end_of run.state) (start-of node plan call request m) (tries-wait request plans) (tries-of (node + nodes plan) plans call request m)
+        of-try request plan plans run (waiting_states plans) (start_tries kinds (node + nodes plan) plans call request m) (end_of run.state) (start-of node plan call request m)
+        (tries-wait request plans) (tries-of (node + nodes plan) plans call request m)
 
   -- ---- a step
 
-  of-open : (request : List ℕ) (plan : Plan M G) (o : Option End) (state : State M G) (run : Run M G) → IsOf kinds request plan state → IsOf kinds request plan run.state → IsOf kinds request plan (while_open o state run).state
+  of-open : (request : List ℕ) (plan : Plan M G) (o : Option End) (state : State M G) (run : Run M G) → IsOf kinds request plan state → IsOf kinds request plan run.state
+      → IsOf kinds request plan (while_open o state run).state
   of-open request plan None state run h hr = hr
   of-open request plan (Some end) state run h hr = h
 
@@ -85,26 +96,31 @@ module _ {M G : Type 0} (kinds : Kinds M G) where
   of-either request plan true p q hp hq = hp
   of-either request plan false p q hp hq = hq
 
-  subs-either : (asked : List Mapped) (plans : Plans M G) (b : Bool) (p q : Below M G) → SubsAreOf kinds asked plans p.states → SubsAreOf kinds asked plans q.states → SubsAreOf kinds asked plans (cond b p q).states
+  subs-either : (asked : List Mapped) (plans : Plans M G) (b : Bool) (p q : Below M G) → SubsAreOf kinds asked plans p.states → SubsAreOf kinds asked plans q.states
+      → SubsAreOf kinds asked plans (cond b p q).states
   subs-either asked plans true p q hp hq = hp
   subs-either asked plans false p q hp hq = hq
 
-  tries-either : (request : List ℕ) (plans : Plans M G) (b : Bool) (p q : Below M G) → TriesAreOf kinds request plans p.states → TriesAreOf kinds request plans q.states → TriesAreOf kinds request plans (cond b p q).states
+  tries-either : (request : List ℕ) (plans : Plans M G) (b : Bool) (p q : Below M G) → TriesAreOf kinds request plans p.states → TriesAreOf kinds request plans q.states
+      → TriesAreOf kinds request plans (cond b p q).states
   tries-either request plans true p q hp hq = hp
   tries-either request plans false p q hp hq = hq
 
-  par-of : (request : List ℕ) (rule plans : _) (b : Bool) (par : _) (end : Option End) (states : States M G) → IsOf kinds request (par_plan rule plans) (par_state par states) → IsOf kinds request (par_plan rule plans) (par_state (cond b (record par { end = end }) par) states)
+  par-of : (request : List ℕ) (rule plans : _) (b : Bool) (par : _) (end : Option End) (states : States M G) → IsOf kinds request (par_plan rule plans) (par_state par states)
+      → IsOf kinds request (par_plan rule plans) (par_state (cond b (record par { end = end }) par) states)
   par-of request rule plans true par end states h = h
   par-of request rule plans false par end states h = h
 
-  sel-of : (request : List ℕ) (timeout : Option ℕ) (plans : Plans M G) (b : Bool) (sel : _) (end : Option End) (states : States M G) → IsOf kinds request (sel_plan timeout plans) (sel_state sel states) → IsOf kinds request (sel_plan timeout plans) (sel_state (cond b (record sel { end = end }) sel) states)
+  sel-of : (request : List ℕ) (timeout : Option ℕ) (plans : Plans M G) (b : Bool) (sel : _) (end : Option End) (states : States M G)
+      → IsOf kinds request (sel_plan timeout plans) (sel_state sel states) → IsOf kinds request (sel_plan timeout plans) (sel_state (cond b (record sel { end = end }) sel) states)
   sel-of request timeout plans true sel end states h = h
   sel-of request timeout plans false sel end states h = h
 
   waits-on : (node : ℕ) (plan : Plan M G) (state : State M G) (call : ℕ) (e : Event) (m : ℕ) → state ≡ waits plan → (step_at kinds node state call e m).state ≡ waits plan
   waits-on node plan state call e m h = ap (λ s. (step_at kinds node s call e m).state) h
 
-  waiting-of : (node : ℕ) (plans : Plans M G) (states : States M G) (call : ℕ) (request : List ℕ) (m : ℕ) → TriesAreOf kinds request plans states → TriesAreOf kinds request plans (start_waiting kinds node states call request m).states
+  waiting-of : (node : ℕ) (plans : Plans M G) (states : States M G) (call : ℕ) (request : List ℕ) (m : ℕ) → TriesAreOf kinds request plans states
+      → TriesAreOf kinds request plans (start_waiting kinds node states call request m).states
   waiting-of node last_plan last_state call request m h = tt
   waiting-of node (plan_then plan plans) last_state call request m h = absurd h
   waiting-of node last_plan (state_then state states) call request m h = absurd h
@@ -117,7 +133,8 @@ module _ {M G : Type 0} (kinds : Kinds M G) where
   waiting-of node (plan_then plan plans) (state_then (sel_state sel below) states) call request m h = h
 
   mutual
-    pub step-of : (node : ℕ) (plan : Plan M G) (state : State M G) (call : ℕ) (e : Event) (m : ℕ) (request : List ℕ) → IsOf kinds request plan state → IsOf kinds request plan (step_at kinds node state call e m).state
+    pub step-of : (node : ℕ) (plan : Plan M G) (state : State M G) (call : ℕ) (e : Event) (m : ℕ) (request : List ℕ) → IsOf kinds request plan state
+        → IsOf kinds request plan (step_at kinds node state call e m).state
     step-of node plan (waits p) call e m request h = h
     step-of node (leaf_plan chan) (leaf_state c q leaf) call e m request h =
         of-either request (leaf_plan chan) (node_of e == node) (leaf_run c call node q leaf (leaf_step c.retry leaf e)) (quiet (leaf_state c q leaf)) h h
@@ -138,27 +155,34 @@ module _ {M G : Type 0} (kinds : Kinds M G) where
         (sel-of request timeout plans (is_deadline e) sel (Some (Bad ERPCTIMEDOUT)) states h)
         (h.0, subst (λ q. TriesAreOf kinds request plans (step_tries kinds (node + 1) states call e m q).states) (sym h.0) (tries-step-of (node + 1) plans states call e m request h.1)))
 
-    subs-step-of : (node : ℕ) (plans : Plans M G) (states : States M G) (call : ℕ) (e : Event) (m : ℕ) (asked : List Mapped) → SubsAreOf kinds asked plans states → SubsAreOf kinds asked plans (step_subs kinds node states call e m).states
+    subs-step-of : (node : ℕ) (plans : Plans M G) (states : States M G) (call : ℕ) (e : Event) (m : ℕ) (asked : List Mapped) → SubsAreOf kinds asked plans states
+        → SubsAreOf kinds asked plans (step_subs kinds node states call e m).states
     subs-step-of node last_plan last_state call e m asked h = tt
     subs-step-of node (plan_then plan plans) last_state call e m asked h = absurd h
     subs-step-of node last_plan (state_then state states) call e m asked h = absurd h
     subs-step-of node (plan_then plan plans) (state_then state states) call e m (answer.Send request ∷ asked) h =
-        subs-either (answer.Send request ∷ asked) (plan_then plan plans) (nat_lt (node_of e) (node + size state)) _ _ (step-of node plan state call e m request h.0, h.1) (h.0, subs-step-of (node + size state) plans states call e m asked h.1)
+        subs-either (answer.Send request ∷ asked) (plan_then plan plans) (nat_lt (node_of e) (node + size state)) _ _ (step-of node plan state call e m request h.0, h.1)
+        (h.0, subs-step-of (node + size state) plans states call e m asked h.1)
     subs-step-of node (plan_then plan plans) (state_then state states) call e m (answer.Skip ∷ asked) h =
-        subs-either (answer.Skip ∷ asked) (plan_then plan plans) (nat_lt (node_of e) (node + size state)) _ _ (waits-on node plan state call e m h.0, h.1) (h.0, subs-step-of (node + size state) plans states call e m asked h.1)
+        subs-either (answer.Skip ∷ asked) (plan_then plan plans) (nat_lt (node_of e) (node + size state)) _ _ (waits-on node plan state call e m h.0, h.1)
+        (h.0, subs-step-of (node + size state) plans states call e m asked h.1)
     subs-step-of node (plan_then plan plans) (state_then state states) call e m (answer.Bad ∷ asked) h =
-        subs-either (answer.Bad ∷ asked) (plan_then plan plans) (nat_lt (node_of e) (node + size state)) _ _ (waits-on node plan state call e m h.0, h.1) (h.0, subs-step-of (node + size state) plans states call e m asked h.1)
+        subs-either (answer.Bad ∷ asked) (plan_then plan plans) (nat_lt (node_of e) (node + size state)) _ _ (waits-on node plan state call e m h.0, h.1)
+        (h.0, subs-step-of (node + size state) plans states call e m asked h.1)
     subs-step-of node (plan_then plan plans) (state_then state states) call e m [] h =
-        subs-either [] (plan_then plan plans) (nat_lt (node_of e) (node + size state)) _ _ (waits-on node plan state call e m h.0, h.1) (h.0, subs-step-of (node + size state) plans states call e m [] h.1)
+        subs-either [] (plan_then plan plans) (nat_lt (node_of e) (node + size state)) _ _ (waits-on node plan state call e m h.0, h.1)
+        (h.0, subs-step-of (node + size state) plans states call e m [] h.1)
 
-    tries-step-of : (node : ℕ) (plans : Plans M G) (states : States M G) (call : ℕ) (e : Event) (m : ℕ) (request : List ℕ) → TriesAreOf kinds request plans states → TriesAreOf kinds request plans (step_tries kinds node states call e m request).states
+    tries-step-of : (node : ℕ) (plans : Plans M G) (states : States M G) (call : ℕ) (e : Event) (m : ℕ) (request : List ℕ) → TriesAreOf kinds request plans states
+        → TriesAreOf kinds request plans (step_tries kinds node states call e m request).states
     tries-step-of node last_plan last_state call e m request h = tt
     tries-step-of node (plan_then plan plans) last_state call e m request h = absurd h
     tries-step-of node last_plan (state_then state states) call e m request h = absurd h
     tries-step-of node (plan_then plan plans) (state_then state states) call e m request h =
         let run = step_at kinds node state call e m in
         tries-either request (plan_then plan plans) (nat_lt (node_of e) (node + size state)) _ _
-        (of-try request plan plans run states (start_waiting kinds (node + size state) states call request m) (new_end (end_of state) (end_of run.state)) (step-of node plan state call e m request h.0) h.1
+        (of-try request plan plans run states (start_waiting kinds (node + size state) states call request m) (new_end (end_of state) (end_of run.state))
+        (step-of node plan state call e m request h.0) h.1
         (waiting-of (node + size state) plans states call request m h.1))
         (h.0, tries-step-of (node + size state) plans states call e m request h.1)
 
@@ -176,7 +200,8 @@ module _ {M G : Type 0} (kinds : Kinds M G) where
   cancelled-of (par_plan rule plans) (sel_state sel states) request h = absurd h
   cancelled-of (sel_plan timeout plans) (sel_state sel states) request h = sel-of request timeout plans (is_none sel.end) sel (Some (Bad ECANCELED)) states h
 
-  pub call-step-of : (plan : Plan M G) (state : State M G) (call : ℕ) (e : Event) (m : ℕ) (request : List ℕ) → IsOf kinds request plan state → IsOf kinds request plan (step kinds call state e m).state
+  pub call-step-of : (plan : Plan M G) (state : State M G) (call : ℕ) (e : Event) (m : ℕ) (request : List ℕ) → IsOf kinds request plan state
+      → IsOf kinds request plan (step kinds call state e m).state
   call-step-of plan state call (event.Reply node attempt code text) m request h = step-of 0 plan state call (event.Reply node attempt code text) m request h
   call-step-of plan state call (event.Lost node attempt code) m request h = step-of 0 plan state call (event.Lost node attempt code) m request h
   call-step-of plan state call (event.Backup node) m request h = step-of 0 plan state call (event.Backup node) m request h
@@ -186,7 +211,8 @@ module _ {M G : Type 0} (kinds : Kinds M G) where
   run-of : (plan : Plan M G) (call : ℕ) (request : List ℕ) (events : List (Event × ℕ)) (run : Run M G) → IsOf kinds request plan run.state
       → IsOf kinds request plan (fold (λ (r : Run M G) timed. and_then r (step kinds call r.state timed.0 timed.1)) run events).state
   run-of plan call request [] run h = h
-  run-of plan call request (timed ∷ events) run h = run-of plan call request events (and_then run (step kinds call run.state timed.0 timed.1)) (call-step-of plan run.state call timed.0 timed.1 request h)
+  run-of plan call request (timed ∷ events) run h = run-of plan call request events (and_then run (step kinds call run.state timed.0 timed.1))
+      (call-step-of plan run.state call timed.0 timed.1 request h)
 
   -- Whatever comes to a call, its nodes are those of its plan, each with the request that the mappers above it made of the call's.
   pub machine-of : (plan : Plan M G) (call : ℕ) (request : List ℕ) (begun : ℕ) (events : List (Event × ℕ)) → IsOf kinds request plan (machine kinds plan call request begun events).state

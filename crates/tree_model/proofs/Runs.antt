@@ -85,9 +85,12 @@ leaf-once node attempt chan call n request (suc count) = by (count == attempt) r
     l : counted (is_of node attempt) (leaf_sends chan call n request count ++ last) ≡ counted (is_of node attempt) (leaf_sends chan call n request count) + counted (is_of node attempt) last
     l = counted-append (is_of node attempt) (leaf_sends chan call n request count) last
 
-    by : (v : Bool) → (count == attempt) ≡ v → counted (is_of node attempt) (leaf_sends chan call n request count) ≤ 1 → counted (is_of node attempt) (leaf_sends chan call n request count ++ last) ≤ 1
-    by true e h = let before = leaf-later node attempt chan call n request count (let same : count ≡ attempt = grind (arith, nat_tests) in omega (arith, same)) in let now = at-most-one (n == node && count == attempt) in omega (arith, l, before, now)
-    by false e h = let none = ap (λ v. cond v 1 0 + 0) (other-attempt node attempt n count (λ same. let yes_ : (count == attempt) ≡ true = grind (arith, nat_tests) in let both = sym e ∙ yes_ in absurd (cc))) in omega (arith, l, h, none)
+    by : (v : Bool) → (count == attempt) ≡ v → counted (is_of node attempt) (leaf_sends chan call n request count) ≤ 1
+        → counted (is_of node attempt) (leaf_sends chan call n request count ++ last) ≤ 1
+    by true e h = let before = leaf-later node attempt chan call n request count (let same : count ≡ attempt = grind (arith, nat_tests) in omega (arith, same)) in let now = at-most-one
+        (n == node && count == attempt) in omega (arith, l, before, now)
+    by false e h = let none = ap (λ v. cond v 1 0 + 0) (other-attempt node attempt n count
+        (λ same. let yes_ : (count == attempt) ≡ true = grind (arith, nat_tests) in let both = sym e ∙ yes_ in absurd (cc))) in omega (arith, l, h, none)
 
 before_or_not : (a b : ℕ) → (a < b) ⊎ (b ≤ a)
 before_or_not a b = by (nat_lt a b) refl
@@ -179,7 +182,8 @@ module _ {M G : Type 0} where
   count-plans plan_of [] plans h = let same : last_plan ≡ plans = cc in ap count_of (sym same)
   count-plans plan_of (number ∷ numbers) plans h = by (plan_of number) (plans_of plan_of numbers) refl refl h (λ more e. count-plans plan_of numbers more e)
     where
-      by : (o : Option (Plan M G)) (p : Option (Plans M G)) → plan_of number ≡ o → plans_of plan_of numbers ≡ p → and_plan o p ≡ Some plans → ((more : Plans M G) → plans_of plan_of numbers ≡ Some more → count_of more ≡ length numbers)
+      by : (o : Option (Plan M G)) (p : Option (Plans M G)) → plan_of number ≡ o → plans_of plan_of numbers ≡ p → and_plan o p ≡ Some plans
+          → ((more : Plans M G) → plans_of plan_of numbers ≡ Some more → count_of more ≡ length numbers)
           → count_of plans ≡ length (number ∷ numbers)
       by None p e f h again = absurd (cc)
       by (Some first) None e f h again = absurd (cc)
@@ -188,7 +192,8 @@ module _ {M G : Type 0} where
   pub tries-few : TriesAreFew M G
   tries-few plan_of call sel plan h = by (plans_of plan_of (tries sel call)) refl h
     where
-      by : (o : Option (Plans M G)) → plans_of plan_of (tries sel call) ≡ o → sel_over sel.timeout o ≡ Some plan → (plans : Plans M G) × (plan ≡ sel_plan sel.timeout plans) × (count_of plans ≡ sel.retry + 1)
+      by : (o : Option (Plans M G)) → plans_of plan_of (tries sel call) ≡ o → sel_over sel.timeout o ≡ Some plan → (plans : Plans M G) × (plan ≡ sel_plan sel.timeout plans)
+          × (count_of plans ≡ sel.retry + 1)
       by None e f = absurd (cc)
       by (Some plans) e f =
           let same : sel_plan sel.timeout plans ≡ plan = cc in

@@ -57,20 +57,24 @@ module _ {M G : Type 0} (kinds : Kinds M G) (t : Send → Bool) (call : ℕ) whe
       let l = counted-append t run.sends below.sends in
       omega (arith, s, l, h, hs)
 
-  sent-beside : (node k n : ℕ) (run : Run M G) (states : States M G) (end : Option End) → size run.state ≡ k → IsSent node n run → AreSent node (n + counted t (all_sends call (node + k) states)) (run_beside run states end)
+  sent-beside : (node k n : ℕ) (run : Run M G) (states : States M G) (end : Option End) → size run.state ≡ k → IsSent node n run
+      → AreSent node (n + counted t (all_sends call (node + k) states)) (run_beside run states end)
   sent-beside node k n run states end e h = let s = split node k run.state states e in omega (arith, s, h)
 
-  sent-ended : (node k n : ℕ) (run : Run M G) (states : States M G) (next : Below M G) (o : Option End) → size run.state ≡ k → IsSent node n run → AreSent (node + k) (counted t (all_sends call (node + k) states)) next
+  sent-ended : (node k n : ℕ) (run : Run M G) (states : States M G) (next : Below M G) (o : Option End) → size run.state ≡ k → IsSent node n run
+      → AreSent (node + k) (counted t (all_sends call (node + k) states)) next
       → AreSent node (n + counted t (all_sends call (node + k) states)) (try_ended run states next o)
   sent-ended node k n run states next None e h hs = sent-then node k n (counted t (all_sends call (node + k) states)) run next e h hs
   sent-ended node k n run states next (Some up) e h hs = sent-beside node k n run states (Some up) e h
 
-  sent-try : (node k n : ℕ) (run : Run M G) (states : States M G) (next : Below M G) (o : Option End) → size run.state ≡ k → IsSent node n run → AreSent (node + k) (counted t (all_sends call (node + k) states)) next
+  sent-try : (node k n : ℕ) (run : Run M G) (states : States M G) (next : Below M G) (o : Option End) → size run.state ≡ k → IsSent node n run
+      → AreSent (node + k) (counted t (all_sends call (node + k) states)) next
       → AreSent node (n + counted t (all_sends call (node + k) states)) (try_run run states next o)
   sent-try node k n run states next None e h hs = sent-beside node k n run states None e h
   sent-try node k n run states next (Some end) e h hs = sent-ended node k n run states next (next_try (is_left states) end) e h hs
 
-  sent-sub : (node k : ℕ) (run : Run M G) (plans : Plans M G) (next : Below M G) (o : Option End) → size run.state ≡ k → IsSent node 0 run → AreSent (node + k) 0 next → AreSent node 0 (sub_started run plans next o)
+  sent-sub : (node k : ℕ) (run : Run M G) (plans : Plans M G) (next : Below M G) (o : Option End) → size run.state ≡ k → IsSent node 0 run → AreSent (node + k) 0 next
+      → AreSent node 0 (sub_started run plans next o)
   sent-sub node k run plans next None e h hs = sent-then node k 0 0 run next e h hs
   sent-sub node k run plans next (Some end) e h hs =
       let w = none-counted (node + k) plans in
@@ -85,15 +89,18 @@ module _ {M G : Type 0} (kinds : Kinds M G) (t : Send → Bool) (call : ℕ) whe
     pub start-sends : (node : ℕ) (plan : Plan M G) (request : List ℕ) (m : ℕ) → IsSent node 0 (start_at kinds node plan call request m)
     start-sends node (leaf_plan leaf) request m = omega arith
     start-sends node (par_plan rule plans) request m =
-        sent-par (node + 1) plans _ (refused (mapped kinds.map rule.maps request)) (subs-sends (node + 1) plans (mapped kinds.map rule.maps request) (limits rule (mapped kinds.map rule.maps request)) rule.merges m [])
+        sent-par (node + 1) plans _ (refused (mapped kinds.map rule.maps request))
+        (subs-sends (node + 1) plans (mapped kinds.map rule.maps request) (limits rule (mapped kinds.map rule.maps request)) rule.merges m [])
     start-sends node (sel_plan timeout plans) request m = tries-sends (node + 1) plans request m
 
-    subs-sends : (node : ℕ) (plans : Plans M G) (asked : List Mapped) (lim : Limits) (merges : List G) (m : ℕ) (ends : List (Option End)) → AreSent node 0 (start_subs kinds node plans call asked lim merges m ends)
+    subs-sends : (node : ℕ) (plans : Plans M G) (asked : List Mapped) (lim : Limits) (merges : List G) (m : ℕ) (ends : List (Option End))
+        → AreSent node 0 (start_subs kinds node plans call asked lim merges m ends)
     subs-sends node last_plan asked lim merges m ends = omega arith
     subs-sends node (plan_then plan plans) (answer.Send request ∷ asked) lim merges m ends =
         let run = start_at kinds node plan call request m in
         let now = ends ++ end_of run.state ∷ [] in
-        sent-sub node (nodes plan) run plans (start_subs kinds (node + nodes plan) plans call asked lim merges m now) (where_ended (end_of run.state) (judged kinds lim merges now)) (size-start kinds node plan call request m) (start-sends node plan request m)
+        sent-sub node (nodes plan) run plans (start_subs kinds (node + nodes plan) plans call asked lim merges m now) (where_ended (end_of run.state) (judged kinds lim merges now))
+        (size-start kinds node plan call request m) (start-sends node plan request m)
         (subs-sends (node + nodes plan) plans asked lim merges m now)
     subs-sends node (plan_then plan plans) (answer.Skip ∷ asked) lim merges m ends = subs-sends (node + nodes plan) plans asked lim merges m (ends ++ None ∷ [])
     subs-sends node (plan_then plan plans) (answer.Bad ∷ asked) lim merges m ends = subs-sends (node + nodes plan) plans asked lim merges m (ends ++ None ∷ [])
@@ -105,14 +112,16 @@ module _ {M G : Type 0} (kinds : Kinds M G) (t : Send → Bool) (call : ℕ) whe
         let run = start_at kinds node plan call request m in
         let w = none-counted (node + nodes plan) plans in
         let more = tries-sends (node + nodes plan) plans request m in
-        let h = sent-try node (nodes plan) 0 run (waiting_states plans) (start_tries kinds (node + nodes plan) plans call request m) (end_of run.state) (size-start kinds node plan call request m) (start-sends node plan request m) (omega (arith, w, more)) in
+        let h = sent-try node (nodes plan) 0 run (waiting_states plans) (start_tries kinds (node + nodes plan) plans call request m) (end_of run.state) (size-start kinds node plan call request m)
+        (start-sends node plan request m) (omega (arith, w, more)) in
         omega (arith, h, w)
 
   waiting-sends : (node : ℕ) (states : States M G) (request : List ℕ) (m : ℕ) → AreSent node (counted t (all_sends call node states)) (start_waiting kinds node states call request m)
   waiting-sends node last_state request m = omega arith
   waiting-sends node (state_then (waits plan) states) request m =
       let run = start_at kinds node plan call request m in
-      let h = sent-try node (nodes plan) 0 run states (start_waiting kinds (node + nodes plan) states call request m) (end_of run.state) (size-start kinds node plan call request m) (start-sends node plan request m)
+      let h = sent-try node (nodes plan) 0 run states (start_waiting kinds (node + nodes plan) states call request m) (end_of run.state) (size-start kinds node plan call request m)
+      (start-sends node plan request m)
       (waiting-sends (node + nodes plan) states request m) in
       omega (arith, h)
   waiting-sends node (state_then (leaf_state chan q leaf) states) request m = omega arith
@@ -152,21 +161,25 @@ module _ {M G : Type 0} (kinds : Kinds M G) (t : Send → Bool) (call : ℕ) whe
     pub step-sends : (node : ℕ) (state : State M G) (e : Event) (m : ℕ) → IsSent node (counted t (sends_of call node state)) (step_at kinds node state call e m)
     step-sends node (waits plan) e m = omega arith
     step-sends node (leaf_state chan request leaf) e m =
-        sent-either node (counted t (leaf_sends chan call node request leaf.issued)) (node_of e == node) (leaf_run chan call node request leaf (leaf_step chan.retry leaf e)) (quiet (leaf_state chan request leaf))
+        sent-either node (counted t (leaf_sends chan call node request leaf.issued)) (node_of e == node) (leaf_run chan call node request leaf (leaf_step chan.retry leaf e))
+        (quiet (leaf_state chan request leaf))
         (leaf-sends chan node request leaf (leaf_step chan.retry leaf e) (leaf_step-issues chan.retry leaf e)) (omega arith)
     step-sends node (par_state par states) e m =
         sent-open node (counted t (all_sends call (node + 1) states)) par.end (par_state par states) _ refl
-        (sent-either node (counted t (all_sends call (node + 1) states)) (node_of e == node) (par_at kinds par states e) (par_stepped kinds par (step_subs kinds (node + 1) states call e m)) (omega arith) (subs-step-sends (node + 1) states e m))
+        (sent-either node (counted t (all_sends call (node + 1) states)) (node_of e == node) (par_at kinds par states e) (par_stepped kinds par (step_subs kinds (node + 1) states call e m))
+        (omega arith) (subs-step-sends (node + 1) states e m))
     step-sends node (sel_state sel states) e m =
         sent-open node (counted t (all_sends call (node + 1) states)) sel.end (sel_state sel states) _ refl
-        (sent-either node (counted t (all_sends call (node + 1) states)) (node_of e == node) (sel_at sel states e) (sel_stepped sel (step_tries kinds (node + 1) states call e m sel.request)) (omega arith) (tries-step-sends (node + 1) states e m sel.request))
+        (sent-either node (counted t (all_sends call (node + 1) states)) (node_of e == node) (sel_at sel states e) (sel_stepped sel (step_tries kinds (node + 1) states call e m sel.request))
+        (omega arith) (tries-step-sends (node + 1) states e m sel.request))
 
     subs-step-sends : (node : ℕ) (states : States M G) (e : Event) (m : ℕ) → AreSent node (counted t (all_sends call node states)) (step_subs kinds node states call e m)
     subs-step-sends node last_state e m = omega arith
     subs-step-sends node (state_then state states) e m =
         let run = step_at kinds node state call e m in
         let before = split node (size state) state states refl in
-        let one = sent-beside node (size state) (counted t (sends_of call node state)) run states (new_end (end_of state) (end_of run.state)) (size-step kinds node state call e m) (step-sends node state e m) in
+        let one = sent-beside node (size state) (counted t (sends_of call node state)) run states (new_end (end_of state) (end_of run.state)) (size-step kinds node state call e m)
+        (step-sends node state e m) in
         let more = subs-step-sends (node + size state) states e m in
         let next = step_subs kinds (node + size state) states call e m in
         let after = split node (size state) state next.states refl in
@@ -177,7 +190,8 @@ module _ {M G : Type 0} (kinds : Kinds M G) (t : Send → Bool) (call : ℕ) whe
     tries-step-sends node (state_then state states) e m request =
         let run = step_at kinds node state call e m in
         let before = split node (size state) state states refl in
-        let one = sent-try node (size state) (counted t (sends_of call node state)) run states (start_waiting kinds (node + size state) states call request m) (new_end (end_of state) (end_of run.state)) (size-step kinds node state call e m) (step-sends node state e m)
+        let one = sent-try node (size state) (counted t (sends_of call node state)) run states (start_waiting kinds (node + size state) states call request m)
+        (new_end (end_of state) (end_of run.state)) (size-step kinds node state call e m) (step-sends node state e m)
         (waiting-sends (node + size state) states request m) in
         let more = tries-step-sends (node + size state) states e m request in
         let next = step_tries kinds (node + size state) states call e m request in

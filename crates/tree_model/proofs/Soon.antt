@@ -32,7 +32,8 @@ module _ {M G : Type 0} (kinds : Kinds M G) where
   then-soon : (m : ℕ) (run : Run M G) (below : Below M G) → RunIsSoon m run → BelowIsSoon m below → BelowIsSoon m (run_then run below)
   then-soon m run below h hs = (append-soon m run.marks below.marks h.0 hs.0, (h.1, hs.1))
 
-  ended-soon : (m : ℕ) (run : Run M G) (states : States M G) (next : Below M G) (o : Option End) → RunIsSoon m run → WaitShortly states → BelowIsSoon m next → BelowIsSoon m (try_ended run states next o)
+  ended-soon : (m : ℕ) (run : Run M G) (states : States M G) (next : Below M G) (o : Option End) → RunIsSoon m run → WaitShortly states → BelowIsSoon m next
+      → BelowIsSoon m (try_ended run states next o)
   ended-soon m run states next None h hs hn = then-soon m run next h hn
   ended-soon m run states next (Some up) h hs hn = (h.0, (h.1, hs))
 
@@ -50,24 +51,33 @@ module _ {M G : Type 0} (kinds : Kinds M G) where
 
   mutual
     pub start-soon : (node : ℕ) (plan : Plan M G) (call : ℕ) (request : List ℕ) (m : ℕ) → IsShort plan → RunIsSoon m (start_at kinds node plan call request m)
-    start-soon node (leaf_plan leaf) call request m h = (append-soon m (mark_after leaf.timeout node m deadline) (mark_after leaf.backup node m backup) (mark-soon leaf.timeout node m deadline h.0) (mark-soon leaf.backup node m backup h.1), tt)
+    start-soon node (leaf_plan leaf) call request m h = (
+      append-soon m (mark_after leaf.timeout node m deadline) (mark_after leaf.backup node m backup) (mark-soon leaf.timeout node m deadline h.0)
+          (mark-soon leaf.backup node m backup h.1),
+      tt,
+    )
     start-soon node (par_plan rule plans) call request m h =
         let asked = mapped kinds.map rule.maps request in
-        let b = par-soon m plans (start_subs kinds (node + 1) plans call asked (limits rule asked) rule.merges m []) (refused asked) h.1 (subs-soon (node + 1) plans call asked (limits rule asked) rule.merges m [] h.1) in
+        let b = par-soon m plans (start_subs kinds (node + 1) plans call asked (limits rule asked) rule.merges m []) (refused asked) h.1
+        (subs-soon (node + 1) plans call asked (limits rule asked) rule.merges m [] h.1) in
         (append-soon m (mark_after rule.timeout node m deadline) _ (mark-soon rule.timeout node m deadline h.0) b.0, b.1)
     start-soon node (sel_plan timeout plans) call request m h =
         let b = tries-soon (node + 1) plans call request m h.1 in
         (append-soon m (mark_after timeout node m deadline) _ (mark-soon timeout node m deadline h.0) b.0, b.1)
 
-    subs-soon : (node : ℕ) (plans : Plans M G) (call : ℕ) (asked : List Mapped) (lim : Limits) (merges : List G) (m : ℕ) (ends : List (Option End)) → AreShort plans → BelowIsSoon m (start_subs kinds node plans call asked lim merges m ends)
+    subs-soon : (node : ℕ) (plans : Plans M G) (call : ℕ) (asked : List Mapped) (lim : Limits) (merges : List G) (m : ℕ) (ends : List (Option End)) → AreShort plans
+        → BelowIsSoon m (start_subs kinds node plans call asked lim merges m ends)
     subs-soon node last_plan call asked lim merges m ends h = (tt, tt)
     subs-soon node (plan_then plan plans) call (answer.Send request ∷ asked) lim merges m ends h =
         let run = start_at kinds node plan call request m in
         let now = ends ++ end_of run.state ∷ [] in
-        sub-soon m run plans (start_subs kinds (node + nodes plan) plans call asked lim merges m now) (where_ended (end_of run.state) (judged kinds lim merges now)) h.1 (start-soon node plan call request m h.0)
+        sub-soon m run plans (start_subs kinds (node + nodes plan) plans call asked lim merges m now) (where_ended (end_of run.state) (judged kinds lim merges now)) h.1
+        (start-soon node plan call request m h.0)
         (subs-soon (node + nodes plan) plans call asked lim merges m now h.1)
-    subs-soon node (plan_then plan plans) call (answer.Skip ∷ asked) lim merges m ends h = let b = subs-soon (node + nodes plan) plans call asked lim merges m (ends ++ None ∷ []) h.1 in (b.0, (h.0, b.1))
-    subs-soon node (plan_then plan plans) call (answer.Bad ∷ asked) lim merges m ends h = let b = subs-soon (node + nodes plan) plans call asked lim merges m (ends ++ None ∷ []) h.1 in (b.0, (h.0, b.1))
+    subs-soon node (plan_then plan plans) call (answer.Skip ∷ asked) lim merges m ends h = let b = subs-soon (node + nodes plan) plans call asked lim merges m (ends ++ None ∷ []) h.1 in
+        (b.0, (h.0, b.1))
+    subs-soon node (plan_then plan plans) call (answer.Bad ∷ asked) lim merges m ends h = let b = subs-soon (node + nodes plan) plans call asked lim merges m (ends ++ None ∷ []) h.1 in
+        (b.0, (h.0, b.1))
     subs-soon node (plan_then plan plans) call [] lim merges m ends h = let b = subs-soon (node + nodes plan) plans call [] lim merges m (ends ++ None ∷ []) h.1 in (b.0, (h.0, b.1))
 
     tries-soon : (node : ℕ) (plans : Plans M G) (call : ℕ) (request : List ℕ) (m : ℕ) → AreShort plans → BelowIsSoon m (start_tries kinds node plans call request m)
@@ -81,7 +91,8 @@ module _ {M G : Type 0} (kinds : Kinds M G) where
   waiting-soon node last_state call request m h = (tt, tt)
   waiting-soon node (state_then (waits plan) states) call request m h =
       let run = start_at kinds node plan call request m in
-      try-soon m run states (start_waiting kinds (node + nodes plan) states call request m) (end_of run.state) (start-soon node plan call request m h.0) h.1 (waiting-soon (node + nodes plan) states call request m h.1)
+      try-soon m run states (start_waiting kinds (node + nodes plan) states call request m) (end_of run.state) (start-soon node plan call request m h.0) h.1
+      (waiting-soon (node + nodes plan) states call request m h.1)
   waiting-soon node (state_then (leaf_state chan q leaf) states) call request m h = (tt, h)
   waiting-soon node (state_then (par_state par below) states) call request m h = (tt, h)
   waiting-soon node (state_then (sel_state sel below) states) call request m h = (tt, h)
@@ -103,10 +114,12 @@ module _ {M G : Type 0} (kinds : Kinds M G) where
     step-soon node (waits plan) call e m h = (tt, h)
     step-soon node (leaf_state chan request leaf) call e m h = either-soon m (node_of e == node) _ _ (tt, tt) (tt, tt)
     step-soon node (par_state par states) call e m h =
-        open-soon m par.end (par_state par states) _ h (either-soon m (node_of e == node) (par_at kinds par states e) (par_stepped kinds par (step_subs kinds (node + 1) states call e m)) (tt, h) (subs-step-soon (node + 1) states call e m h))
+        open-soon m par.end (par_state par states) _ h (either-soon m (node_of e == node) (par_at kinds par states e) (par_stepped kinds par (step_subs kinds (node + 1) states call e m)) (tt, h)
+        (subs-step-soon (node + 1) states call e m h))
     step-soon node (sel_state sel states) call e m h =
         open-soon m sel.end (sel_state sel states) _ h
-        (either-soon m (node_of e == node) (sel_at sel states e) (sel_stepped sel (step_tries kinds (node + 1) states call e m sel.request)) (tt, h) (tries-step-soon (node + 1) states call e m sel.request h))
+        (either-soon m (node_of e == node) (sel_at sel states e) (sel_stepped sel (step_tries kinds (node + 1) states call e m sel.request)) (tt, h)
+        (tries-step-soon (node + 1) states call e m sel.request h))
 
     subs-step-soon : (node : ℕ) (states : States M G) (call : ℕ) (e : Event) (m : ℕ) → WaitShortly states → BelowIsSoon m (step_subs kinds node states call e m)
     subs-step-soon node last_state call e m h = (tt, tt)
@@ -122,5 +135,6 @@ module _ {M G : Type 0} (kinds : Kinds M G) where
         let one = step-soon node state call e m h.0 in
         let more = tries-step-soon (node + size state) states call e m request h.1 in
         below-soon m (nat_lt (node_of e) (node + size state)) _ _
-        (try-soon m run states (start_waiting kinds (node + size state) states call request m) (new_end (end_of state) (end_of run.state)) one h.1 (waiting-soon (node + size state) states call request m h.1))
+        (try-soon m run states (start_waiting kinds (node + size state) states call request m) (new_end (end_of state) (end_of run.state)) one h.1
+        (waiting-soon (node + size state) states call request m h.1))
         (more.0, (h.0, more.1))

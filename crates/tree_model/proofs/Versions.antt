@@ -82,7 +82,8 @@ pub at-position : (m : Meaning) (xs : List Meaning) (i : ℕ) → position (is_s
 at-position m [] i e = absurd (cc)
 at-position m (x ∷ xs) i e = by (is_same m x) (position (is_same m) xs) refl refl (sym (position-cons (is_same m) x xs) ∙ e) (λ j h. at-position m xs j h)
   where
-    by : (v : Bool) (o : Option ℕ) → is_same m x ≡ v → position (is_same m) xs ≡ o → cond v (Some 0) (option_map suc o) ≡ Some i → ((j : ℕ) → position (is_same m) xs ≡ Some j → slice_get xs j ≡ Some m) → slice_get (x ∷ xs) i ≡ Some m
+    by : (v : Bool) (o : Option ℕ) → is_same m x ≡ v → position (is_same m) xs ≡ o → cond v (Some 0) (option_map suc o) ≡ Some i
+        → ((j : ℕ) → position (is_same m) xs ≡ Some j → slice_get xs j ≡ Some m) → slice_get (x ∷ xs) i ≡ Some m
     by true o here rest h again = let zero_is : 0 ≡ i = cc in subst (λ j. slice_get (x ∷ xs) j ≡ Some m) zero_is (ap Some (sym (same-is m x here)))
     by false None here rest h again = absurd (cc)
     by false (Some j) here rest h again = let suc_is : suc j ≡ i = cc in subst (λ k. slice_get (x ∷ xs) k ≡ Some m) suc_is (again j rest)
@@ -155,7 +156,8 @@ nothing-distinct = tt
 
 leaf-distinct : (node first count : ℕ) → IsDistinct is_same (leaf_versions node first count)
 leaf-distinct node first zero = nothing-distinct
-leaf-distinct node first (suc count) = IsDistinct-cons is_same (Attempt node first) (leaf_versions node (first + 1) count) (leaf-apart node first (first + 1) count (omega arith)) (leaf-distinct node (first + 1) count)
+leaf-distinct node first (suc count) = IsDistinct-cons is_same (Attempt node first) (leaf_versions node (first + 1) count) (leaf-apart node first (first + 1) count (omega arith))
+    (leaf-distinct node (first + 1) count)
 
 node-apart : (n first count : ℕ) → n < first → Apart (Node n) (node_versions first count)
 node-apart n first zero less = tt
@@ -186,15 +188,18 @@ module _ {M G : Type 0} where
   mutual
     pub attempts-within : (node : ℕ) (plan : Plan M G) → Within node (node + nodes plan) (attempt_versions node plan)
     attempts-within node (leaf_plan leaf) = leaf-within node 0 (leaf.retry + 1)
-    attempts-within node (par_plan rule plans) = wider (node + 1) (node + 1 + nodes_of plans) node (node + (1 + nodes_of plans)) (attempt_versions_of (node + 1) plans) (omega arith) (omega arith) (all-within (node + 1) plans)
-    attempts-within node (sel_plan timeout plans) = wider (node + 1) (node + 1 + nodes_of plans) node (node + (1 + nodes_of plans)) (attempt_versions_of (node + 1) plans) (omega arith) (omega arith) (all-within (node + 1) plans)
+    attempts-within node (par_plan rule plans) = wider (node + 1) (node + 1 + nodes_of plans) node (node + (1 + nodes_of plans)) (attempt_versions_of (node + 1) plans) (omega arith) (omega arith)
+        (all-within (node + 1) plans)
+    attempts-within node (sel_plan timeout plans) = wider (node + 1) (node + 1 + nodes_of plans) node (node + (1 + nodes_of plans)) (attempt_versions_of (node + 1) plans) (omega arith)
+        (omega arith) (all-within (node + 1) plans)
 
     pub all-within : (node : ℕ) (plans : Plans M G) → Within node (node + nodes_of plans) (attempt_versions_of node plans)
     all-within node last_plan = tt
     all-within node (plan_then plan plans) =
         within-append node (node + (nodes plan + nodes_of plans)) (attempt_versions node plan) (attempt_versions_of (node + nodes plan) plans)
         (wider node (node + nodes plan) node (node + (nodes plan + nodes_of plans)) (attempt_versions node plan) (omega arith) (omega arith) (attempts-within node plan))
-        (wider (node + nodes plan) (node + nodes plan + nodes_of plans) node (node + (nodes plan + nodes_of plans)) (attempt_versions_of (node + nodes plan) plans) (omega arith) (omega arith) (all-within (node + nodes plan) plans))
+        (wider (node + nodes plan) (node + nodes plan + nodes_of plans) node (node + (nodes plan + nodes_of plans)) (attempt_versions_of (node + nodes plan) plans) (omega arith) (omega arith)
+        (all-within (node + nodes plan) plans))
 
   mutual
     pub attempts-distinct : (node : ℕ) (plan : Plan M G) → IsDistinct is_same (attempt_versions node plan)

@@ -5,7 +5,8 @@ use Rattle.rpc_model.specs.declared.event.End.{End}
 use Rattle.rpc_model.specs.declared.event.End.TheVariants.{Bad}
 use Rattle.rpc_model.specs.declared.event.Event.{Event}
 use Rattle.tree_model.specs.Kinds.{Kinds}
-use Rattle.tree_model.specs.Plan.{Rule, Plan, par_plan, Plans, last_plan, plan_then}
+use Rattle.tree_model.specs.declared.chan.Chan.{Chan}
+use Rattle.tree_model.specs.Plan.{Rule, Plan, par_plan, Plans, last_plan, plan_then, plan}
 use Rattle.tree_model.specs.Parallel.{limits, mapped, refused, par_end, par_deadline, ends_from}
 use Rattle.tree_model.specs.State.{Par, State, waits, leaf_state, par_state, sel_state, States, last_state, state_then, end_of, ends_of}
 use Rattle.tree_model.specs.Machine.{new_end, start, step, machine}
@@ -77,8 +78,9 @@ module _ {M G : Type 0} (kinds : Kinds M G) where
   NodeStandsBy path rule plans done (Some (par_state par states)) = StandsBy path rule done par states
   NodeStandsBy path rule plans done (Some (sel_state sel states)) = ⊥
 
-  -- Each parallel node of a plan, at the end of whatever path, stands by its completions in the order in which they came.
+  -- Each parallel node of the plan of a channel, at the end of whatever path, stands by its completions in the order in which they came.
   abbrev pub ParallelNodesStandByCompletions : Type 0
-  ParallelNodesStandByCompletions = (path : List ℕ) (plan : Plan M G) (rule : Rule M G) (plans : Plans M G) (call : ℕ) (request : List ℕ) (begun : ℕ) (events : List (Event × ℕ))
-      → node_at path (waits plan) ≡ Some (waits (par_plan rule plans)) → count_of plans ≡ length rule.merges
-      → NodeStandsBy path rule plans (completions path plan call request begun events) (node_at path (machine kinds plan call request begun events).state)
+  ParallelNodesStandByCompletions = (chans : List (Chan M G)) (number call : ℕ) (p : Plan M G) (path : List ℕ) (rule : Rule M G)
+      (plans : Plans M G) (request : List ℕ) (begun : ℕ) (events : List (Event × ℕ))
+      → plan chans number call ≡ Some p → node_at path (waits p) ≡ Some (waits (par_plan rule plans))
+      → NodeStandsBy path rule plans (completions path p call request begun events) (node_at path (machine kinds p call request begun events).state)
