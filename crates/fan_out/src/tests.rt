@@ -64,6 +64,7 @@ fn parts_are_merged_by_rising_index(rt: HostRuntime) -> Result<(), Fail> {
     ];
     for (merge, texts, fails, limit, wanted) in rows {
         let parts = parts(alloc, merge, &texts)?;
+        assert!(rt; fails < limit, "a node that is merged has fewer failures");
         let end = fold_parts(alloc, &parts, fails, limit)?;
         assert_eq!(rt; end, wanted, "{merge:?}");
     }
