@@ -6,12 +6,14 @@ mod measuring;
 mod places;
 mod planning;
 mod plans;
+mod sound;
 mod table;
 mod tree;
 
 pub use measuring::Measure;
 pub use planning::{PlanFault, plan};
 pub use plans::Plan;
+pub use sound::are_sound;
 pub use tree::{PlanNode, PlanTree, Rule};
 pub use tree_model::{Chan, ParChan, PartChan, SelChan, Sub, Tag};
 

@@ -2,6 +2,7 @@ use super::*;
 use rpc_base::List;
 use rpc_model::LeafChan;
 use std::alloc::{AllocError, Global};
+use std::process::Abort;
 use std::test::Fail;
 use tree_model::{MapKind, Meaning, MergeKind};
 
@@ -77,6 +78,7 @@ fn nested(alloc: Global) -> Result<Vec<Kinds>, AllocError> {
 #[test]
 fn offsets_are_places_among_the_versions(rt: HostRuntime) -> Result<(), Fail> {
     let chans = nested(rt.alloc())?;
+    assert!(rt; are_sound(&chans) && chans.len() == 3);
     let Ok(plan) = plan(rt.alloc(), &chans, 2, 1) else {
         assert!(rt; false, "the plan is refused");
         return Ok(());
@@ -109,9 +111,29 @@ fn offsets_are_places_among_the_versions(rt: HostRuntime) -> Result<(), Fail> {
 }
 
 /// The fault that the last channel is refused with.
-fn fault(alloc: Global, chans: &[Kinds], call: u32) -> Option<PlanFault> {
-    let last = chans.len().wrapping_sub(1);
-    plan(alloc, chans, last as u32, call).err()
+fn fault(rt: &impl Abort, alloc: Global, chans: &[Kinds], call: u32) -> Option<PlanFault> {
+    assert!(rt;
+        are_sound(chans),
+        "each channel names only channels before it"
+    );
+    let last = u32::try_from(chans.len().wrapping_sub(1)).unwrap_or(0);
+    assert!(rt; (last as usize) < chans.len());
+    plan(alloc, chans, last, call).err()
+}
+
+/// A channel that names itself or a later one, a plain channel without a server and a selective one without a sub.
+#[test]
+fn lists_that_have_no_plans(rt: HostRuntime) -> Result<(), Fail> {
+    let alloc = rt.alloc();
+    for (number, sound) in [(0, true), (1, false), (2, false)] {
+        let mut chans = Vec::new(alloc);
+        chans.push(leaf(alloc, 0)?)?;
+        chans.push(par(alloc, &[0, number])?)?;
+        assert_eq!(rt; are_sound(&chans), sound);
+    }
+    let chans = vec![in alloc; sel(alloc, 0, &[])?]?;
+    assert_eq!(rt; are_sound(&chans), false);
+    Ok(())
 }
 
 #[test]
@@ -120,7 +142,11 @@ fn a_chain_of_eight_channels_and_of_nine(rt: HostRuntime) -> Result<(), Fail> {
     chans.push(leaf(rt.alloc(), 0)?)?;
     for below in 0..8 {
         let wanted = None;
-        assert_eq!(rt; fault(rt.alloc(), &chans, 1), wanted, "at depth {below}");
+        assert_eq!(rt;
+            fault(&rt, rt.alloc(), &chans, 1),
+            wanted,
+            "at depth {below}"
+        );
         if below % 2 == 0 {
             chans.push(par(rt.alloc(), &[below])?)?;
         } else {
@@ -128,8 +154,14 @@ fn a_chain_of_eight_channels_and_of_nine(rt: HostRuntime) -> Result<(), Fail> {
         }
     }
     // The ninth is too deep, though the tries of call 2 don't reach the deep sub.
-    assert_eq!(rt; fault(rt.alloc(), &chans, 1), Some(PlanFault::TooDeep(9)));
-    assert_eq!(rt; fault(rt.alloc(), &chans, 2), Some(PlanFault::TooDeep(9)));
+    assert_eq!(rt;
+        fault(&rt, rt.alloc(), &chans, 1),
+        Some(PlanFault::TooDeep(9))
+    );
+    assert_eq!(rt;
+        fault(&rt, rt.alloc(), &chans, 2),
+        Some(PlanFault::TooDeep(9))
+    );
     Ok(())
 }
 
@@ -147,7 +179,7 @@ fn widths_at_the_limit(rt: HostRuntime) -> Result<(), Fail> {
         chans.push(leaf(rt.alloc(), 100)?)?;
         chans.push(leaf(rt.alloc(), retry)?)?;
         chans.push(par(rt.alloc(), &[0, 0, 0, 0, 0, 0, 0, 0, 0, 0, 1])?)?;
-        assert_eq!(rt; fault(rt.alloc(), &chans, 1), wanted, "with {retry}");
+        assert_eq!(rt; fault(&rt, rt.alloc(), &chans, 1), wanted, "with {retry}");
     }
     Ok(())
 }
@@ -156,17 +188,17 @@ fn widths_at_the_limit(rt: HostRuntime) -> Result<(), Fail> {
 fn widths_that_no_plan_could_have(rt: HostRuntime) -> Result<(), Fail> {
     let mut chans = Vec::new(rt.alloc());
     chans.push(leaf(rt.alloc(), 100)?)?;
-    let mut below = 0;
+    let mut below = 0u32;
     for _ in 0..7 {
         let mut subs = Vec::new(rt.alloc());
         for _ in 0..1000 {
             subs.push(below)?;
         }
         chans.push(par(rt.alloc(), &subs)?)?;
-        below += 1;
+        below = below.wrapping_add(1);
     }
     assert_eq!(rt;
-        fault(rt.alloc(), &chans, 1),
+        fault(&rt, rt.alloc(), &chans, 1),
         Some(PlanFault::TooWide(1025))
     );
     Ok(())
@@ -182,12 +214,12 @@ fn parts_without_a_server(rt: HostRuntime) -> Result<(), Fail> {
     for (tags, wanted) in rows {
         let mut chans = Vec::new(rt.alloc());
         chans.push(part(rt.alloc(), 2, &tags)?)?;
-        assert_eq!(rt; fault(rt.alloc(), &chans, 1), wanted, "with {tags:?}");
+        assert_eq!(rt; fault(&rt, rt.alloc(), &chans, 1), wanted, "with {tags:?}");
         // Behind a selective channel only the tries of this call's number count.
         chans.push(leaf(rt.alloc(), 0)?)?;
         chans.push(sel(rt.alloc(), 0, &[0, 1])?)?;
-        assert_eq!(rt; fault(rt.alloc(), &chans, 2), wanted, "with {tags:?}");
-        assert_eq!(rt; fault(rt.alloc(), &chans, 3), None, "with {tags:?}");
+        assert_eq!(rt; fault(&rt, rt.alloc(), &chans, 2), wanted, "with {tags:?}");
+        assert_eq!(rt; fault(&rt, rt.alloc(), &chans, 3), None, "with {tags:?}");
     }
     Ok(())
 }
@@ -200,6 +232,7 @@ fn tries_turn_by_the_calls_number(rt: HostRuntime) -> Result<(), Fail> {
     chans.push(par(rt.alloc(), &[0, 0])?)?;
     chans.push(sel(rt.alloc(), 1, &[0, 1, 2])?)?;
     let rows = [(3, 9), (4, 12), (5, 8), (6, 9), (4_294_967_295, 9)];
+    assert!(rt; are_sound(&chans) && chans.len() == 4);
     for (call, width) in rows {
         let Ok(plan) = plan(rt.alloc(), &chans, 3, call) else {
             assert!(rt; false, "the plan is refused");
