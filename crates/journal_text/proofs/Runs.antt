@@ -1,5 +1,5 @@
 -- The lines of a journal, one after the other, make it again.
-use Rattle.std.proofs.Common.{◌≡◌, ℕ, suc, ◌+◌, ◌<◌, ◌≤◌, Bool, true, false, cond, ◌&&◌, ◌||◌, ◌==◌, eqb, ltb, List, [], ◌∷◌, ◌++◌, length, map, Option, Some, None, Result, Ok, Err, refl, ap, sym, subst, ◌∙◌, arith, eq-eqb, append_assoc, append-nil, codes}
+use Rattle.std.proofs.Common.{◌≡◌, ℕ, ◌+◌, ◌<◌, ◌≤◌, Bool, true, ◌||◌, ◌==◌, eqb, ltb, List, [], ◌∷◌, ◌++◌, length, map, Option, Some, None, Result, Ok, refl, ap, sym, ◌∙◌, arith, eq-eqb, append_assoc, append-nil, codes}
 use Rattle.std.specs.List.{flat_map, slice_split, AllByRecursion}
 use Rattle.std.specs.Prelude.{IsTrue}
 use Rattle.std.proofs.lemmas.Bool.{lt-ltb}
@@ -18,14 +18,14 @@ use Rattle.rpc_model.specs.declared.journal.LaneLog.{LaneLog}
 use Rattle.rpc_model.specs.declared.journal.CancelNote.{CancelNote}
 use Rattle.rpc_model.specs.declared.line.Line.{Line}
 use Rattle.rpc_model.specs.declared.line.Line.TheVariants as line
-use Rattle.rpc_model.specs.Texts.{line_text, text_of, call_lines, one_wire, wire_lines, one_lane, lane_lines, journal_lines, journal_text}
+use Rattle.rpc_model.specs.Texts.{line_text, text_of, call_lines, one_wire, wire_lines, lane_lines, journal_lines, journal_text}
 use Rattle.journal_text.specs.declared.draft.Stage.{Stage}
 use Rattle.journal_text.specs.declared.draft.Stage.TheVariants.{Calls, Wires, Marks, Lanes}
-use Rattle.journal_text.specs.Reading.{◌>>=◌, guard, line_of}
-use Rattle.journal_text.specs.Writing.{is_line, AreLines, IsWritable}
+use Rattle.journal_text.specs.Reading.{◌>>=◌, guard}
+use Rattle.journal_text.specs.Writing.{is_line, IsWritable}
 use Rattle.journal_text.specs.Typed.{IsTypedLine, IsTyped}
-use Rattle.journal_text.specs.Drafts.{Draft, begun, with_last, is_calls, is_wires, is_marks, is_lanes, with_wire, with_lane, with_line, with_text, or_else, journal_of_draft, finished, with_piece, with_pieces, journal_of}
-use Rattle.journal_text.proofs.Plain.{lacks, split_front}
+use Rattle.journal_text.specs.Drafts.{Draft, begun, with_last, is_calls, is_wires, is_marks, is_lanes, with_line, or_else, journal_of_draft, finished, with_pieces, journal_of}
+use Rattle.journal_text.proofs.Plain.{split_front}
 use Rattle.journal_text.proofs.Taken.{pieces_first, pieces_last, ends_there}
 use Rattle.journal_text.proofs.Understood.{line_reads, line_lacks}
 
@@ -89,7 +89,7 @@ calls_run d xs o (c ∷ cs) rest =
       others.1,
       others.2 ∙ append_assoc (with_last xs o) (c ∷ []) cs,
       ap (λ (ls : List Line). run (record d { stage = Calls; calls = xs; call = o }) ls) (append_assoc (call_lines c) (flat_map call_lines cs) rest)
-      ∙ (entries_run (record d { calls = with_last xs o }) (record c { log = [] }) c.log more ∙ others.3),
+          ∙ (entries_run (record d { calls = with_last xs o }) (record c { log = [] }) c.log more ∙ others.3),
     )
 
 abbrev pub no_lists : How → WireLog
@@ -122,10 +122,10 @@ wires_run d s xs o n (w ∷ ws) rest may is =
       others.3,
       others.4 ∙ append_assoc zs (w ∷ []) ws,
       ap (λ (ls : List Line). run (record d { stage = s; wires = xs; wire = o }) ls) (append_assoc (one_wire n w) (wire_lines (n + 1) ws) rest)
-      ∙ (ap (λ (x : Option Draft). x >>= λ f. run f (lists ++ more)) (wire_taken s d xs o n w.how may is)
-      ∙ (ap (λ (ls : List Line). run (record e { stage = Wires; wire = Some (no_lists w.how) }) ls)
+          ∙ (ap (λ (x : Option Draft). x >>= λ f. run f (lists ++ more)) (wire_taken s d xs o n w.how may is)
+          ∙ (ap (λ (ls : List Line). run (record e { stage = Wires; wire = Some (no_lists w.how) }) ls)
           (append_assoc (map line.Out w.out ++ map line.In w.came) (map line.Loss w.losses) more ∙ append_assoc (map line.Out w.out) (map line.In w.came) (map line.Loss w.losses ++ more))
-      ∙ (outs_run e w.how [] w.out (map line.In w.came ++ (map line.Loss w.losses ++ more)) ∙ (ins_run e w.how w.out [] w.came (map line.Loss w.losses ++ more) ∙ (losses_run e w.how w.out w.came [] w.losses more ∙ others.5))))),
+          ∙ (outs_run e w.how [] w.out (map line.In w.came ++ (map line.Loss w.losses ++ more)) ∙ (ins_run e w.how w.out [] w.came (map line.Loss w.losses ++ more) ∙ (losses_run e w.how w.out w.came [] w.losses more ∙ others.5))))),
     )
 
 lane_taken : (s : Stage) (d : Draft) (xs : List LaneLog) (o : Option LaneLog) (n : ℕ) → (is_marks s || is_lanes s) ≡ true → n ≡ length (with_last xs o) → n < 16
@@ -150,7 +150,7 @@ lanes_run d xs l n (k ∷ ls) is few =
       others.1,
       others.2 ∙ append_assoc zs (k ∷ []) ls,
       ap (λ (x : Option Draft). x >>= λ f. run f (map line.Cancel k.cancels ++ lane_lines (n + 1) ls)) (lane_taken Lanes d xs (Some l) n refl is (omega (arith, few)))
-      ∙ (cancels_run (record d { lanes = zs }) [] k.cancels (lane_lines (n + 1) ls) ∙ others.3),
+          ∙ (cancels_run (record d { lanes = zs }) [] k.cancels (lane_lines (n + 1) ls) ∙ others.3),
     )
 
 -- all lanes
@@ -162,7 +162,7 @@ lanes_all d l ls few =
       others.1,
       others.2,
       ap (λ (x : Option Draft). x >>= λ f. run f (map line.Cancel l.cancels ++ lane_lines 1 ls)) (lane_taken Marks d [] None 0 refl refl (omega arith))
-      ∙ (cancels_run (record d { lanes = [] }) [] l.cancels (lane_lines 1 ls) ∙ others.3),
+          ∙ (cancels_run (record d { lanes = [] }) [] l.cancels (lane_lines 1 ls) ∙ others.3),
     )
 
 timer_taken : (s : Stage) (d : Draft) → (is_calls s || is_wires s) ≡ true → with_line (record d { stage = s }) line.Timer ≡ Some (record d { stage = Marks })
@@ -192,10 +192,10 @@ makes calls wires marks (l ∷ ls) some few =
     let x = wires_run d1 Calls [] None 0 wires (line.Timer ∷ (m ++ n)) refl refl in
     let d2 : Draft = record d1 { wires = x.1; wire = x.2 } in
     let d3 : Draft = record d2 { marks = marks } in
-    let y = lanes_all d3 l ls few in (
+    let y = lanes_all d3 l ls (omega (arith, few)) in (
       record d3 { stage = Lanes; lanes = y.0; lane = Some y.1 },
       ap (λ (t : List Line). run begun t) (append_assoc (f ++ w ++ (line.Timer ∷ [])) m n ∙ (append_assoc (f ++ w) (line.Timer ∷ []) (m ++ n) ∙ append_assoc f w (line.Timer ∷ (m ++ n))))
-      ∙ (c.3 ∙ (x.5 ∙ (ap (λ (o : Option Draft). o >>= λ e. run e (m ++ n)) (timer_taken x.0 d2 x.3) ∙ (marks_run d2 [] marks n ∙ y.3)))),
+          ∙ (c.3 ∙ (x.5 ∙ (ap (λ (o : Option Draft). o >>= λ e. run e (m ++ n)) (timer_taken x.0 d2 x.3) ∙ (marks_run d2 [] marks n ∙ y.3)))),
       refl,
       journal_same (with_last c.0 c.1) calls (with_last x.1 x.2) wires marks (y.0 ++ y.1 ∷ []) (l ∷ ls) c.2 x.4 y.2,
     )
@@ -226,7 +226,7 @@ lines_taken d d' n (l ∷ ls) t k h =
     pieces_first d n (line_text l) (map line_text ls) []
     ∙ (ap (λ (o : Option Line). or_else (o >>= with_line d) n (λ next. with_pieces next (n + 1) (map line_text ls ++ [] ∷ []))) (line_reads l t.0 k.0)
     ∙ next_taken (with_line d l) d' n ls (finished d' (n + length (l ∷ ls)) []) h
-      (λ e r. lines_taken e d' (n + 1) ls t.1 k.1 r ∙ ap (λ (m : ℕ). finished d' m []) (let e : n + 1 + length ls ≡ n + length (l ∷ ls) = omega arith in e)))
+    (λ e r. lines_taken e d' (n + 1) ls t.1 k.1 r ∙ ap (λ (m : ℕ). finished d' m []) (let e : n + 1 + length ls ≡ n + length (l ∷ ls) = omega arith in e)))
 
 -- what was written is read as the journal again
 pub reads_again : (j : Journal) → IsWritable j → IsTyped j → journal_of (journal_text j) ≡ Ok j

@@ -1,19 +1,17 @@
 -- A line that is written is read as itself.
-use Rattle.std.proofs.Common.{◌≡◌, ℕ, ◌+◌, ◌*◌, ◌-◌, ◌%◌, ◌^◌, ◌<◌, ◌≤◌, Bool, true, false, not, cond, ◌&&◌, ◌==◌, leb, nat_le, List, [], ◌∷◌, ◌++◌, Option, Some, None, Result, Ok, refl, ap, sym, ◌∙◌, rules, arith, codes, bytes_eq, ◌⊎◌, inl, inr, eq-eqb}
+use Rattle.std.proofs.Common.{◌≡◌, ℕ, ◌+◌, ◌%◌, ◌^◌, ◌<◌, ◌≤◌, Bool, true, false, not, cond, ◌&&◌, ◌==◌, nat_le, List, [], ◌∷◌, ◌++◌, Option, Some, None, refl, ap, ◌∙◌, rules, arith, codes, bytes_eq, ◌⊎◌, inl, inr, eq-eqb}
 use Rattle.std.specs.Fmt.{decimal}
-use Rattle.std.specs.List.{slice_split, list_all}
+use Rattle.std.specs.List.{list_all}
 use Rattle.std.specs.Str.{all_ascii_digits}
 use Rattle.std.proofs.lemmas.Bool.{and_parts, and_from, ne_eqb, leb-true}
-use Rattle.std.proofs.lemmas.Fmt.{decimal_by_steps, digits_value-decimal, digits_decimal}
+use Rattle.std.proofs.lemmas.Fmt.{decimal_by_steps, digits_value-decimal}
 use Rattle.std.proofs.lemmas.Str.Parse.{IsNumeralModel, numerals_by_fold}
-use Rattle.std.proofs.lemmas.Slice.Eq.{bytes_eq-Decides}
 use Rattle.hex.specs.Hex.{IsBytes, encode_with, encode_lower, lower_digits, decode_of}
 use Rattle.hex.proofs.HexLemmas.{decode_of-encode_lower}
 use Rattle.rpc_model.specs.declared.event.Event.{Event}
 use Rattle.rpc_model.specs.declared.event.Event.TheVariants.{Reply, Lost, Backup, Deadline, Cancel}
 use Rattle.rpc_model.specs.declared.entry.Origin.{Origin}
 use Rattle.rpc_model.specs.declared.entry.Origin.TheVariants as origin
-use Rattle.rpc_model.specs.declared.entry.Entry.{Entry}
 use Rattle.rpc_model.specs.declared.entry.Fate.{Fate}
 use Rattle.rpc_model.specs.declared.entry.Fate.TheVariants as fate
 use Rattle.rpc_model.specs.declared.journal.How.{How}

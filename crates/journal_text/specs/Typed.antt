@@ -1,5 +1,5 @@
 -- The numbers of a journal are of their types, and payloads are bytes, as in every value of the code: this project's own choice.
-use Rattle.std.specs.Prelude.{ℕ, ◌≤◌, List}
+use Rattle.std.specs.Prelude.{ℕ, ◌≤◌}
 use Rattle.std.specs.List.{AllByRecursion}
 use Rattle.hex.specs.Hex.{IsBytes}
 use Rattle.rpc_model.specs.declared.event.Event.{Event}
