@@ -76,7 +76,8 @@ IsRefused None = ⊥
 IsRefused (Some bytes) = (fault : ℕ × Cause) × (script Sim bytes ≡ Err fault)
 
 -- What a replay of a script from a source to a sink owes, by its status.
-pub record IsReplay {K : Type 0} (left rest : Option (List ℕ)) (reads_before reads_now : ℕ) (held written : Option (List ℕ)) (writes_before writes_now : ℕ) (sink_before sink_now : K) (status : ℕ) : Type 0 where
+pub record IsReplay {K : Type 0} (left rest : Option (List ℕ)) (reads_before reads_now : ℕ) (held written : Option (List ℕ))
+    (writes_before writes_now : ℕ) (sink_before sink_now : K) (status : ℕ) : Type 0 where
   pub known : IsReplayStatus status
   -- the headline: what is written is what the plain machine tells of the script that was read
   pub tells_all : status ≡ 0 → TellsAll left rest held written

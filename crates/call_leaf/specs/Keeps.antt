@@ -1,4 +1,5 @@
--- What a leaf keeps beside the text of its reply, and what it answers: the table of a leaf's events in the model, by brpc's documents on the client and on backup requests, with this project's own choices.
+-- What a leaf keeps beside the text of its reply, and what it answers: the table of a leaf's events in the model, by
+-- brpc's documents on the client and on backup requests, with this project's own choices.
 use Rattle.std.specs.Prelude.{◌≡◌, ℕ, Bool, false, nat_lt, List, Option, None, Some, if◌then◌else◌}
 use Rattle.rpc_model.specs.declared.event.End.{End}
 use Rattle.rpc_model.specs.declared.event.End.TheVariants as end

@@ -1,4 +1,5 @@
--- What a range of versions and a slot are, and what each call makes of them, after brpc's documents on bthread_id. The first versions, the retired slots and the ended range that keeps its value are this project's own choice.
+-- What a range of versions and a slot are, and what each call makes of them, after brpc's documents on bthread_id. The
+-- first versions, the retired slots and the ended range that keeps its value are this project's own choice.
 use Rattle.std.specs.Prelude.{ℕ, zero, suc, ◌+◌, ◌-◌, ◌^◌, ◌==◌, leb, ltb, Bool, true, false, ◌&&◌, if◌then◌else◌, List, [], ◌∷◌, ◌++◌, slice_get, Some, None}
 use Rattle.std.specs.declared.option.Option.{Option}
 use Rattle.id_pool.specs.Ids.{slot_of, version_of}

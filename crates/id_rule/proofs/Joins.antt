@@ -17,7 +17,8 @@ use Rattle.id_rule.specs.declared.view.Part.{Part}
 use Rattle.id_rule.specs.declared.view.View.{View}
 use Rattle.id_rule.proofs.Lists.{views_after, there_below}
 use Rattle.id_rule.proofs.Receipts.{at_append, numbers_append}
-use Rattle.id_rule.proofs.Seats.{seat_now, renamed, now_id, now_other, now_third, seat_low, seat_both, seat_spent, seat_third, list_both, knew_joined, before_both, within_both, joined_is}
+use Rattle.id_rule.proofs.Seats.{counts_join, seat_now, renamed, now_id, now_other, now_third, seat_low, seat_both, seat_spent, seat_third, list_both, knew_joined, before_both, within_both}
+use Rattle.id_rule.proofs.Seats.{joined_is}
 use Rattle.id_rule.proofs.Seats.{has_joined, each_both, each_map}
 
 -- the history, with the seats after the join
@@ -319,11 +320,6 @@ module _ {T E : Type 0} (log : T → List E) (first_id : T → ℕ) (rec : E →
       → (by : ℕ) (u : View E) → get_elem? (set (set vs id x) other y) by ≡ some u → P by u
   views_both vs x y P one two third = views_after (set vs id x) other y P two
       (λ by u ne e. views_after vs id x (λ by u. by ≢ other → P by u) (λ _. one) (λ by u ne' e' ne''. third by u ne'' ne' e') by u e ne)
-
--- the first pass's own number has numbered as much as before
-counts_join : (sent : ℕ → ℕ) (ns ms : List ℕ) (n : ℕ) → HasNumber (own_number ns) ns → HasSent sent ns n → HasSent sent (ns ++ ms) n
-counts_join sent [] ms n has c = absurd has
-counts_join sent (a ∷ ns) ms n has c = c
 
 -- joining a pass keeps the rule
 pub join_keeps : {T E : Type 0} (log : T → List E) (first_id : T → ℕ) (rec : E → Option Receipt) (sizes : Sizes) (id other : ℕ) (v w : View E) → w.hand ≡ None → w.taken ≡ []

@@ -261,8 +261,13 @@ module _ {T E : Type 0} (log : T → List E) (first_id : T → ℕ) (rec : E →
             (λ _. own)),
         ((λ _. (second, refl)), λ miss. absurd (miss hit)),
       ))
-      (λ miss. (view_with_seen me.0 i n, keeps, tt, view_notes log first_id rec sizes s i id me.0 (view_with_seen me.0 i n) kept at refl refl refl refl refl refl,
-          ((λ hit. absurd (miss hit)), λ _. refl)))
+      (λ miss. (
+        view_with_seen me.0 i n,
+        keeps,
+        tt,
+        view_notes log first_id rec sizes s i id me.0 (view_with_seen me.0 i n) kept at refl refl refl refl refl refl,
+        ((λ hit. absurd (miss hit)), λ _. refl),
+      ))
     where
       apart : (j : ℕ) → in_hand id ≡ on_list id j → ⊥
       apart j e = absurd (cc)

@@ -4,7 +4,8 @@ use Rattle.std.proofs.Common.{Some, None}
 use Rattle.std.specs.Prelude.{◌==◌, if◌then◌else◌, max}
 use mathlib.Core.Logic.{dite}
 use native.Mathlib.Decide.{ℕ_discrete}
-use Rattle.id_rule.specs.Parts.{HasNumber, blank_part, part_at, HasLog, AreAll}
+use Rattle.id_rule.specs.Receipts.{HasSent}
+use Rattle.id_rule.specs.Parts.{own_number, HasNumber, blank_part, part_at, HasLog, AreAll}
 use Rattle.id_rule.specs.Changes.{either_of, joined_part, joined_parts}
 use Rattle.id_rule.specs.Phases.{Range, Phase, vacant, reserved, free, locked, ended, taken, retired, AreBefore, AreWithin}
 use Rattle.id_rule.specs.declared.view.Known.{Known}
@@ -151,3 +152,8 @@ each_both P (n ∷ ns) ms a b = (a.0, each_both P ns ms a.1 b)
 pub each_map : (P Q : ℕ → Type 0) (ns : List ℕ) → ((n : ℕ) → P n → Q n) → AreAll P ns → AreAll Q ns
 each_map P Q [] f a = tt
 each_map P Q (n ∷ ns) f a = (f n a.0, each_map P Q ns f a.1)
+
+-- the first pass's own number has numbered as much as before
+pub counts_join : (sent : ℕ → ℕ) (ns ms : List ℕ) (n : ℕ) → HasNumber (own_number ns) ns → HasSent sent ns n → HasSent sent (ns ++ ms) n
+counts_join sent [] ms n has c = absurd has
+counts_join sent (a ∷ ns) ms n has c = c

@@ -14,7 +14,8 @@ use Rattle.id_rule.specs.Rule.{IsKept}
 module _ {T E : Type 0} (log : T → List E) (first_id : T → ℕ) (rec : E → Option Receipt) where
   -- two passes that both have this of one slot are one
   abbrev pub IsOnePass : (Part E → Option (ℕ × ℕ)) → Type 0
-  IsOnePass claim = (sizes : Sizes) (s : State (Option T) (View E)) (slot a b : ℕ) (v w : View E) (r q : ℕ × ℕ) → IsKept log first_id rec sizes s → slot < sizes.slots
+  IsOnePass claim = (sizes : Sizes) (s : State (Option T) (View E)) (slot a b : ℕ) (v w : View E) (r q : ℕ × ℕ) → IsKept log first_id rec sizes s
+      → slot < sizes.slots
       → get_elem? s.views a ≡ some v → get_elem? s.views b ≡ some w → claim (part_of v slot) ≡ Some r → claim (part_of w slot) ≡ Some q → a ≡ b
 
   -- A slot has at most one Hold, and at most one Spot and one Owner, whatever the order of the steps so far
@@ -23,5 +24,6 @@ module _ {T E : Type 0} (log : T → List E) (first_id : T → ℕ) (rec : E →
 
   -- While a pass has the Owner of a slot, the slot's word isn't vacant, and has that range's first version: no other range is reserved there
   abbrev pub OwnedSlotsStay : Type 0
-  OwnedSlotsStay = (sizes : Sizes) (s : State (Option T) (View E)) (slot a word : ℕ) (v : View E) (r : ℕ × ℕ) → IsKept log first_id rec sizes s → slot < sizes.slots
+  OwnedSlotsStay = (sizes : Sizes) (s : State (Option T) (View E)) (slot a word : ℕ) (v : View E) (r : ℕ × ℕ) → IsKept log first_id rec sizes s
+      → slot < sizes.slots
       → get_elem? s.views a ≡ some v → (part_of v slot).owner ≡ Some r → get_elem? s.words slot ≡ some word → (code_in word ≢ 0) × (first_in word ≡ r.0)

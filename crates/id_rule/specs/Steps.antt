@@ -45,8 +45,8 @@ module _ {T E : Type 0} where
   abbrev pub IsReserving : Step (Option T) → Mine T E → ℕ → Mine T E → Type 0
   IsReserving s m n m' =
       (n ≡ s.first
-        → (m' ≡ (view_with m.0 m.0.seen s.word (part_with_spot (part_of m.0 s.word) (Some (first_in s.first, range_in s.second))), m.1))
-        × ((part_of m.0 s.word).spot ≡ None))
+      → (m' ≡ (view_with m.0 m.0.seen s.word (part_with_spot (part_of m.0 s.word) (Some (first_in s.first, range_in s.second))), m.1))
+      × ((part_of m.0 s.word).spot ≡ None))
       × HasMissed s m n m'
 
   -- reserved to vacant: the Spot goes

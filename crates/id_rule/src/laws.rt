@@ -7,11 +7,9 @@ use crate::tenant::Tenant;
 /// so far.
 pub fn one_holder<T: Tenant>()
     ensures one_holder { OneHolder T.log T.first_id T.receipt }
-{
-}
+{}
 
 /// While a pass has the Owner of a range, no other range is reserved in its slot.
 pub fn owned_slots_stay<T: Tenant>()
     ensures owned_slots_stay { OwnedSlotsStay T.log T.first_id T.receipt }
-{
-}
+{}

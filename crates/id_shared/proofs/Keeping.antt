@@ -61,7 +61,8 @@ module _ {E : Type 0} where
 
   -- a Hold where there was none keeps claims
   kept_hold : (v : View E) (c : Claim) (log : List E) → (part_of v c.slot).hold ≡ None → (slot : ℕ) → IsKeptAt v (view_with_hold v c log) slot
-  kept_hold v c log bare = kept_change v v.seen c.slot (part_with_hold (part_of v c.slot) (Some (c.first, c.size)) c.first log) (λ r. ((λ h. h), (λ h. absurd (none-some r (sym bare ∙ h))), (λ h. h)))
+  kept_hold v c log bare = kept_change v v.seen c.slot (part_with_hold (part_of v c.slot) (Some (c.first, c.size)) c.first log)
+      (λ r. ((λ h. h), (λ h. absurd (none-some r (sym bare ∙ h))), (λ h. h)))
 
   -- the Hold that a lock gave
   holding : (q : Standing E) (v : View E) (c : Claim) (log : List E) → q.view ≡ view_with_hold v c log → IsHolding q c log
@@ -83,7 +84,8 @@ module _ {E : Type 0} where
   reserved_claims slots range p q reserve.Full a slot = kept_to p.view q.view (view_after_loads p.view (words_from 0 q.words)) slot a.3 (kept_loads p.view (words_from 0 q.words) slot)
   reserved_claims slots range p q (reserve.Again word found) a slot =
       let v = view_after_loads p.view (words_from 0 q.words) in
-      kept_to p.view q.view (view_after_load v a.2.0 found) slot a.2.2 (kept_on p.view v (view_after_load v a.2.0 found) slot (kept_loads p.view (words_from 0 q.words) slot) (kept_load v a.2.0 found slot))
+      kept_to p.view q.view (view_after_load v a.2.0 found) slot a.2.2 (kept_on p.view v (view_after_load v a.2.0 found) slot (kept_loads p.view (words_from 0 q.words) slot)
+      (kept_load v a.2.0 found slot))
   reserved_claims slots range p q reserve.BadRange a slot = kept_part p.view q.view slot (ap (λ z. part_of z.view slot) a.1)
 
   -- the Spot that `reserve` gave
@@ -104,7 +106,8 @@ module _ {E : Type 0} where
   -- collecting keeps the claims on other slots
   kept_collect : (v : View E) (c : Claim) (log : List E) (slot : ℕ) → slot ≢ c.slot → IsKeptAt v (view_after_collect v c log) slot
   kept_collect v c log slot ne = let w = view_with_value v c log in
-      kept_on v w (view_after_collect v c log) slot (kept_else v (v.seen ++ (c.slot, packed_word c.first c.size 4 0) ∷ []) c.slot (part_with_taking (part_of v c.slot) (c.first, c.size) log) slot ne)
+      kept_on v w (view_after_collect v c log) slot (kept_else v (v.seen ++ (c.slot, packed_word c.first c.size 4 0) ∷ []) c.slot (part_with_taking (part_of v c.slot) (c.first, c.size) log) slot
+      ne)
       (kept_else w w.seen c.slot (part_without_taking (part_of w c.slot)) slot ne)
 
 module _ {T E : Type 0} (log : T → List E) (first_id : T → ℕ) where
@@ -119,7 +122,8 @@ module _ {T E : Type 0} (log : T → List E) (first_id : T → ℕ) where
   tried_claims slots id p q try.NoSlot a slot = kept_part p.view q.view slot (ap (λ z. part_of z.view slot) a.1)
   tried_claims slots id p q (try.Again word found) a slot =
       let v = view_after_load p.view a.0 word in
-      kept_to p.view q.view (view_after_load v a.0 found) slot (ap (λ z. z.view) a.4) (kept_on p.view v (view_after_load v a.0 found) slot (kept_load p.view a.0 word slot) (kept_load v a.0 found slot))
+      kept_to p.view q.view (view_after_load v a.0 found) slot (ap (λ z. z.view) a.4)
+      (kept_on p.view v (view_after_load v a.0 found) slot (kept_load p.view a.0 word slot) (kept_load v a.0 found slot))
 
   -- the Hold that `try_lock` gave
   pub tried_holding : (slots id : ℕ) (p q : Standing E) (answer : TryLock T) → IsTried log first_id slots id p answer q → HasTried log q answer

@@ -68,7 +68,8 @@ module _ {E : Type 0} where
         (word, (subst (λ (z : ℕ). z < slots) here low, vacant, (l.words, same ∙ words, long ∙ here, full)), a.1),
         a.2,
         ap (λ z. z.view) a.3 ∙ ap (λ v. view_with_spot v c) (looked_more p.view slot word l k long was view words ∙ ap (λ ns. view_after_loads p.view (words_from 0 ns)) (sym same)),
-        sym (ap (λ (z : Part E). z.spot) (loads_keep p.view (words_from 0 k.words) c.slot).1) ∙ ap (λ v. (part_of v c.slot).spot) (sym (looked_more p.view slot word l k long was view words)) ∙ ap (λ (z : ℕ). (part_of k.view z).spot) (a.0) ∙ a.4,
+        sym (ap (λ (z : Part E). z.spot) (loads_keep p.view (words_from 0 k.words) c.slot).1) ∙ ap (λ v. (part_of v c.slot).spot) (sym (looked_more p.view slot word l k long was view words))
+            ∙ ap (λ (z : ℕ). (part_of k.view z).spot) (a.0) ∙ a.4,
       )
   reserved_at slots range slot word p l k q reserve.Full size low was long full view words vacant a = absurd a
   reserved_at slots range slot word p l k q (reserve.Again old found) size low was long full view words vacant a =

@@ -1,11 +1,11 @@
 -- The row of a new table, and its passes, which are handed out in order.
 use Rattle.std.proofs.Common.{◌≡◌, ℕ, zero, suc, ◌+◌, ◌*◌, ◌-◌, ◌<◌, ◌≤◌, List, [], ◌∷◌, ◌++◌, length, refl, sym, ap, subst, arith}
-use Rattle.std.specs.Prelude.{replicate}
+use Rattle.std.specs.Prelude.{replicate, All}
 use mathlib.Core.Option.{some}
 use lib.ListN.{get_elem?}
 use Rattle.id_rule.specs.Nodes.{word_at}
 use Rattle.id_shared.specs.Opening.{IsNewPass, IsRoot, IsOpened, AreOpened}
-use Rattle.id_shared.specs.Standing.{IdTable, Standing}
+use Rattle.id_shared.specs.Standing.{IdTable, Standing, IsPassOf}
 
 -- the words of the slots come first
 pub slots_first : (n slot : ℕ) (more : List ℕ) → slot < n → get_elem? (replicate n 1073741824 ++ more) slot ≡ some 1073741824
@@ -64,3 +64,9 @@ module _ {E : Type 0} where
   pub opened_push : (ids : IdTable) (n : ℕ) (ps : List (Standing E)) (p : Standing E) (k : ℕ) → n + length ps ≡ k → AreOpened ids n ps → IsOpened ids k p → AreOpened ids n (ps ++ p ∷ [])
   opened_push ids n [] p k e all one = (subst (λ (z : ℕ). IsOpened ids z p) (sym (let h = e in omega arith)) one, tt)
   opened_push ids n (q ∷ qs) p k e all one = (all.0, opened_push ids (n + 1) qs p k (let h = e in omega arith) all.1 one)
+
+  -- the opened passes are the table's
+  pub opened_own : (ids : IdTable) (n : ℕ) (ps : List (Standing E)) → AreOpened ids n ps → All (IsPassOf ids) ps
+  opened_own ids n [] all k d h = absurd (omega arith)
+  opened_own ids n (p ∷ ps) all zero d h = all.0.0
+  opened_own ids n (p ∷ ps) all (suc k) d h = opened_own ids (n + 1) ps all.1 k d (omega arith)

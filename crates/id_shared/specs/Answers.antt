@@ -53,10 +53,6 @@ module _ {E : Type 0} where
   abbrev pub HasAllLogs : List (Known E) → ℕ → List E → Type 0
   HasAllLogs ks first log = (l : List E) → HasLog ks first l → IsPrefix l log
 
-  -- after a look at the words: the pass noted them
-  abbrev pub HasLooked : Standing E → Standing E → List (ℕ × ℕ) → View E → Type 0
-  HasLooked p q more v = v ≡ view_after_loads p.view (words_from 0 q.words ++ more)
-
   -- the exchange found the vacant word, which gave the Spot, or another
   abbrev pub IsReservedFrom : ℕ → ℕ → ℕ → Standing E → Reserve → Standing E → Type 0
   IsReservedFrom slot word range p (reserve.Spot c) q = (c.slot ≡ slot)

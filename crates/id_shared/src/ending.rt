@@ -92,7 +92,7 @@ impl<T: Tenant> Ids<T> {
 const LAST: u64 = 4294966272;
 
 // The word of a slot whose range was collected: vacant, or retired where the next first version would be past the last.
-fn next_word(first: u32, size: u32) -> u64
+pub(crate) fn next_word(first: u32, size: u32) -> u64
     requires size { size < 2 ^ 11 }
     ensures vacant { first + size ≤ 4294966272 → result ≡ packed_word (first + size) 0 0 0 }
     ensures retired { 4294966272 < first + size → result ≡ packed_word first 0 5 0 }

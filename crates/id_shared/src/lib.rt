@@ -24,4 +24,8 @@ pub use ids::Ids;
 pub use pass::Pass;
 
 #[cfg(test)]
+mod race_tests;
+#[cfg(test)]
 mod tests;
+#[cfg(test)]
+mod thread_tests;

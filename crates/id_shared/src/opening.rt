@@ -1,5 +1,6 @@
 //! Opening a table.
-ghost use Rattle.std.specs.Prelude.{◌≡◌, ◌≤◌, ◌+◌, ◌*◌, [], length, vec_capacity, IfOk};
+ghost use Rattle.std.specs.Prelude.{◌≡◌, ◌≤◌, ◌+◌, ◌*◌, [], length, vec_capacity, All, IfOk};
+ghost use Rattle.id_shared.specs.Standing.{IsPassOf};
 ghost use Rattle.id_shared.specs.Opening.{IsRow, IsNewPass, IsRoot, AreOpened};
 
 use crate::ids::Ids;
@@ -52,6 +53,7 @@ impl<T: Tenant> Ids<T> {
         requires passes { 1 ≤ passes }
         requires root { IsRoot self.now 1 root }
         ensures passes { IfOk result (λ ps. (length ps.items ≡ passes) × AreOpened self.now 0 ps.items) }
+        ensures own { IfOk result (λ ps. All (IsPassOf self.now) ps.items) }
     {
         let Ok(mut all) = Vec::with_capacity(alloc, passes as usize) else {
             return Err(NoMemory);
@@ -86,6 +88,7 @@ impl<T: Tenant + Drop> Ids<T> {
         requires nodes { (1 ≤ nodes) × (passes * nodes ≤ 65535) }
         ensures sizes { IfOk result (λ r. (r.0.sizes.slots ≡ slots) × (r.0.sizes.passes ≡ passes) × (r.0.sizes.nodes ≡ nodes)) }
         ensures passes { IfOk result (λ r. (length r.1.items ≡ passes) × AreOpened r.0 0 r.1.items) }
+        ensures own { IfOk result (λ r. All (IsPassOf r.0) r.1.items) }
     {
         let row = words(alloc, slots, passes * nodes)?;
         let sizes = Sizes {

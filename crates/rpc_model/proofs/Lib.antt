@@ -4,3 +4,4 @@ pub mod Runs
 pub mod Once
 pub mod Attempts
 pub mod Early
+pub mod Weaves

@@ -25,7 +25,8 @@ IsSparse (told_of call) = Unit {0}
 abbrev pub AreSparse : Replay → Type 0
 AreSparse replay = AllByRecursion IsSparse replay.calls
 
--- Where every call takes its due marks at once, the lines from here on tell the same. This holds of a replay in which no call has more waiting marks than its plan may set, and every replay of a script is one.
+-- Where every call takes its due marks at once, the lines from here on tell the same. This holds of a replay in which
+-- no call has more waiting marks than its plan may set, and every replay of a script is one.
 abbrev pub DueMarksMayBeTakenAtOnce : Type 0
 DueMarksMayBeTakenAtOnce = ((script : Script) (acts : List Act) (replay : Replay) → AreSparse replay → told_from script (settled replay) acts ≡ told_from script replay acts)
     × AreSparse unbegun

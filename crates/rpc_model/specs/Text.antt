@@ -5,7 +5,9 @@ use Rattle.rpc_model.specs.declared.event.End.TheVariants.{Good, Bad}
 use Rattle.rpc_model.specs.declared.told.Told.{Told}
 use Rattle.rpc_model.specs.declared.told.Told.TheVariants.{Ended, Unended, Full, Gone}
 use Rattle.rpc_model.specs.declared.script.Cause.{Cause}
-use Rattle.rpc_model.specs.declared.script.Cause.TheVariants.{TooLong, LineTooLong, BadByte, BadLine, NotBuilt, SimOnly, LiveOnly, BadNumber, BadOption, BadName, DupName, NoName, BadSub, BadTag, BadWord, DupCall, NoCall, BadAttempt, TextTooLong, Late, MissingPart, TooDeep, TooWide, TooMany, TooMuch}
+use Rattle.rpc_model.specs.declared.script.Cause.TheVariants.{TooLong, LineTooLong, BadByte, BadLine, NotBuilt, SimOnly, LiveOnly, BadNumber, BadOption}
+use Rattle.rpc_model.specs.declared.script.Cause.TheVariants.{BadName, DupName, NoName, BadSub, BadTag, BadWord, DupCall, NoCall, BadAttempt, TextTooLong}
+use Rattle.rpc_model.specs.declared.script.Cause.TheVariants.{Late, MissingPart, TooDeep, TooWide, TooMany, TooMuch}
 
 -- a text as a word: the empty text is written as a dash
 abbrev pub text_word : List ℕ → List ℕ

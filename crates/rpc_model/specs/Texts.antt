@@ -4,11 +4,9 @@ use Rattle.std.specs.Fmt.{decimal}
 use Rattle.hex.specs.Hex.{encode_lower}
 use Rattle.rpc_model.specs.declared.event.Event.{Event}
 use Rattle.rpc_model.specs.declared.event.Event.TheVariants.{Reply, Lost, Backup, Deadline, Cancel}
-use Rattle.rpc_model.specs.declared.sent.Sent.{Sent}
 use Rattle.rpc_model.specs.declared.entry.Origin.{Origin}
 use Rattle.rpc_model.specs.declared.entry.Origin.TheVariants.{Frame, Loss, Mark, Lane}
 use Rattle.rpc_model.specs.declared.entry.Origin.TheVariants as origin
-use Rattle.rpc_model.specs.declared.entry.Entry.{Entry}
 use Rattle.rpc_model.specs.declared.entry.Fate.{Fate}
 use Rattle.rpc_model.specs.declared.entry.Fate.TheVariants.{Gone, Stray, Dropped}
 use Rattle.rpc_model.specs.declared.entry.Fate.TheVariants as fate
@@ -17,11 +15,7 @@ use Rattle.rpc_model.specs.declared.journal.CallLog.{CallLog}
 use Rattle.rpc_model.specs.declared.journal.How.{How}
 use Rattle.rpc_model.specs.declared.journal.How.TheVariants.{End, Fault, Bad, Full}
 use Rattle.rpc_model.specs.declared.journal.WireLog.{WireLog}
-use Rattle.rpc_model.specs.declared.journal.Came.{Came}
-use Rattle.rpc_model.specs.declared.journal.LossNote.{LossNote}
-use Rattle.rpc_model.specs.declared.journal.Fired.{Fired}
 use Rattle.rpc_model.specs.declared.journal.LaneLog.{LaneLog}
-use Rattle.rpc_model.specs.declared.journal.CancelNote.{CancelNote}
 use Rattle.rpc_model.specs.declared.line.Line.{Line}
 use Rattle.rpc_model.specs.declared.line.Line.TheVariants as line
 

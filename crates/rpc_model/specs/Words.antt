@@ -1,5 +1,6 @@
 -- The words of a script's lines, each with the cause for which it is refused. This project's own choice.
-use Rattle.std.specs.Prelude.{ℕ, ◌+◌, ◌-◌, ◌*◌, Bool, true, false, ◌==◌, ◌&&◌, ◌||◌, not, nat_le, List, [], ◌∷◌, length, drop, take, is_none, Option, None, Some, Result, Ok, Err, codes, bytes_eq, position, if◌then◌else◌}
+use Rattle.std.specs.Prelude.{ℕ, ◌+◌, ◌-◌, ◌*◌, Bool, true, false, ◌==◌, ◌&&◌, ◌||◌, not, nat_le, List, [], ◌∷◌, length, drop, take, is_none, Option, None}
+use Rattle.std.specs.Prelude.{Some, Result, Ok, Err, codes, bytes_eq, position, if◌then◌else◌}
 use Rattle.std.specs.List.{list_all, slice_split}
 use Rattle.rpc_model.specs.declared.script.Cause.{Cause}
 use Rattle.rpc_model.specs.declared.script.Cause.TheVariants.{BadNumber, BadOption, BadName, DupName, NoName, BadWord, BadAttempt, TextTooLong}

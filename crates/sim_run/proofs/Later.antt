@@ -12,7 +12,7 @@ use Rattle.rpc_model.specs.Machine.{State, leaf_state, Mark, attempts, end_of, i
 use Rattle.rpc_model.specs.Marks.{Begun, apply, take_mark, mark_event, least_mark, lesser, is_before, weave_at_most, weave_least, finish_at_most, finish_least, most_marks}
 use Rattle.rpc_model.proofs.MomentsStay.{step-sets}
 use Rattle.rpc_model.proofs.Runs.{IssuesFew, leaf_step-issues}
-use Rattle.rpc_model.proofs.Early.{least-length}
+use Rattle.rpc_model.proofs.Weaves.{least-length}
 use Rattle.sim_run.specs.declared.turn.Turn.{Turn}
 use Rattle.sim_run.specs.declared.turn.Turn.TheVariants as turn
 use Rattle.sim_run.specs.Link.{Link}

@@ -1,4 +1,6 @@
--- What the bytes of an RpcMeta say, or the first fault from the left with its place: by brpc's baidu_std document and the Protocol Buffers wire format. The faults, and the empty name where a request has none, are this project's own choice.
+-- What the bytes of an RpcMeta say, or the first fault from the left with its place: by brpc's baidu_std document and
+-- the Protocol Buffers wire format. The faults, and the empty name where a request has none, are this project's own
+-- choice.
 use Rattle.std.specs.Prelude.{ℕ, ◌%◌, ◌^◌, ℤ, List, [], length, Some, None, Result, Ok, Err, ◌==◌, if◌then◌else◌, unwrap_or}
 use Rattle.std.specs.Int.{w32, w64, cast_signed, is_negative}
 use Rattle.std.specs.Str.{is_utf8}

@@ -1,6 +1,6 @@
-use Rattle.std.proofs.Common.{sym, subst, ap, ◌∙◌, ◌+◌, ◌∷◌, [], length, ◌<◌, ◌≡◌, arith, length-append}
+use Rattle.std.proofs.Common.{rules, sym, subst, ap, ◌∙◌, ◌+◌, ◌∷◌, [], length, ◌<◌, ◌≡◌, arith, length-append}
 use Rattle.id_shared.specs.Opening.{AreOpened}
-use Rattle.id_shared.proofs.Openings.{opened_new, opened_push}
+use Rattle.id_shared.proofs.Openings.{opened_new, opened_push, opened_own}
 use Rattle.id_shared.proofs.ids.Ids.deal.Goals as goal
 
 pub loop-number-preserved : goal.loop-number-preserved
@@ -15,3 +15,9 @@ loop-number-preserved g c =
       ap (λ xs. 1 + length xs) items ∙ omega (arith, length-append c.loop-number.all.items (c.in_ok-pass.pass ∷ []), len),
       omega arith,
     )
+
+pub returns-clause-passes : goal.returns-clause-passes
+returns-clause-passes g c = search rules
+
+pub returns-clause-own : goal.returns-clause-own
+returns-clause-own g c = opened_own c.args.self.now 0 c.insert.new.self.items (returns-clause-passes g c).1

@@ -31,11 +31,13 @@ loop-preserved g c =
 
 pub returns-in-Locked-clause-claims : goal.returns-in-Locked-clause-claims
 returns-in-Locked-clause-claims g c =
-    lock_claims g.T.Tenant.log g.T.Tenant.first_id c.args.self.now.sizes.slots c.args.id c.args.pass.now c.try_lock.new.pass (lock.Locked c.in-Locked.hold c.in-Locked.value) (returns-in-Locked-clause-answer g c)
+    lock_claims g.T.Tenant.log g.T.Tenant.first_id c.args.self.now.sizes.slots c.args.id c.args.pass.now c.try_lock.new.pass (lock.Locked c.in-Locked.hold c.in-Locked.value)
+    (returns-in-Locked-clause-answer g c)
 
 pub returns-in-Locked-clause-holding : goal.returns-in-Locked-clause-holding
 returns-in-Locked-clause-holding g c =
-    lock_holding g.T.Tenant.log g.T.Tenant.first_id c.args.self.now.sizes.slots c.args.id c.args.pass.now c.try_lock.new.pass (lock.Locked c.in-Locked.hold c.in-Locked.value) (returns-in-Locked-clause-answer g c)
+    lock_holding g.T.Tenant.log g.T.Tenant.first_id c.args.self.now.sizes.slots c.args.id c.args.pass.now c.try_lock.new.pass (lock.Locked c.in-Locked.hold c.in-Locked.value)
+    (returns-in-Locked-clause-answer g c)
 
 pub returns-in-Gone-clause-claims : goal.returns-in-Gone-clause-claims
 returns-in-Gone-clause-claims g c =

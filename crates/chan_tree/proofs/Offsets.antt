@@ -1,0 +1,68 @@
+-- The versions of a range by the counts and the table of a plan.
+use Rattle.std.proofs.Common.{◌≡◌, ℕ, zero, suc, ◌+◌, ◌-◌, ◌<◌, ◌≤◌, List, ◌++◌, position, slice_get, Option, Some, None, arith, refl, ap, sym, ◌∙◌, subst}
+use Rattle.std.specs.List.{IsDistinct}
+use Rattle.std.specs.Option.{option_map}
+use Rattle.std.proofs.lemmas.Option.{slice_get_past}
+use Rattle.tree_model.specs.declared.meaning.Meaning.{Meaning}
+use Rattle.tree_model.specs.declared.meaning.Meaning.TheVariants.{Node, Attempt}
+use Rattle.tree_model.specs.Plan.{Plan}
+use Rattle.tree_model.specs.Versions.{nodes, node_versions, attempt_versions, is_same, versions, width, offset_of, meaning_of}
+use Rattle.tree_model.proofs.Versions.{position-cons, offset-meaning, attempts-distinct, width-is}
+use Rattle.chan_tree.specs.Table.{attempts_by, leaf_nodes, leaf_counts, total, IsRising}
+use Rattle.chan_tree.proofs.Tables.{total-counts, attempts-are, leaves-rise, rises}
+
+get-node : (first count : ℕ) (ys : List Meaning) (k : ℕ) → k < count → slice_get (node_versions first count ++ ys) k ≡ Some (Node (first + k))
+get-node first zero ys k less = absurd (omega (arith, less))
+get-node first (suc count) ys zero less = ap (λ n. Some (Node n)) (let same : first ≡ first + 0 = omega arith in same)
+get-node first (suc count) ys (suc k) less = get-node (first + 1) count ys k (omega (arith, less)) ∙ ap (λ n. Some (Node n)) (let same : first + 1 + k ≡ first + suc k = omega arith in same)
+
+get-past : (first count : ℕ) (ys : List Meaning) (o : ℕ) → slice_get (node_versions first count ++ ys) (count + o) ≡ slice_get ys o
+get-past first zero ys o = ap (slice_get ys) (let same : 0 + o ≡ o = omega arith in same)
+get-past first (suc count) ys o = subst (λ i. slice_get (node_versions first (suc count) ++ ys) i ≡ slice_get ys o) (let same : suc (count + o) ≡ suc count + o = omega arith in same) (get-past (first + 1) count ys o)
+
+one-past : (count : ℕ) (o : Option ℕ) → option_map suc (option_map (λ i. count + i) o) ≡ option_map (λ i. suc count + i) o
+one-past count None = refl
+one-past count (Some i) = ap Some (let same : suc (count + i) ≡ suc count + i = omega arith in same)
+
+none-past : (o : Option ℕ) → o ≡ option_map (λ i. 0 + i) o
+none-past None = refl
+none-past (Some i) = ap Some (let same : i ≡ 0 + i = omega arith in same)
+
+position-past : (node attempt first count : ℕ) (ys : List Meaning) → position (is_same (Attempt node attempt)) (node_versions first count ++ ys) ≡ option_map (λ i. count + i) (position (is_same (Attempt node attempt)) ys)
+position-past node attempt first zero ys = none-past (position (is_same (Attempt node attempt)) ys)
+position-past node attempt first (suc count) ys =
+    position-cons (is_same (Attempt node attempt)) (Node first) (node_versions (first + 1) count ++ ys) ∙ ap (option_map suc) (position-past node attempt (first + 1) count ys)
+    ∙ one-past count (position (is_same (Attempt node attempt)) ys)
+
+module _ {M G : Type 0} where
+  pub node_meaning : (p : Plan M G) (n : ℕ) → n < nodes p → meaning_of p n ≡ Some (Node n)
+  unfolding meaning_of versions
+  node_meaning p n less = get-node 0 (nodes p) (attempt_versions 0 p) n less ∙ ap (λ k. Some (Node k)) (let same : 0 + n ≡ n = omega arith in same)
+
+  pub node_offset : (p : Plan M G) (n : ℕ) → n < nodes p → offset_of p (Node n) ≡ Some n
+  node_offset p n less = offset-meaning p (Node n) n (node_meaning p n less)
+
+  pub past_meaning : (p : Plan M G) (o : ℕ) → width p ≤ o → meaning_of p o ≡ None
+  unfolding meaning_of width
+  past_meaning p o past = slice_get_past (versions p) o past
+
+  pub attempt_meaning : (p : Plan M G) (o : ℕ) → nodes p ≤ o → meaning_of p o ≡ slice_get (attempts_by (leaf_nodes 0 p) (leaf_counts p)) (o - nodes p)
+  unfolding meaning_of versions
+  attempt_meaning p o behind =
+      let split : o ≡ nodes p + (o - nodes p) = omega (arith, behind) in
+      subst (λ i. slice_get (node_versions 0 (nodes p) ++ attempt_versions 0 p) i ≡ slice_get (attempts_by (leaf_nodes 0 p) (leaf_counts p)) (o - nodes p)) (sym split)
+      (get-past 0 (nodes p) (attempt_versions 0 p) (o - nodes p) ∙ ap (λ xs. slice_get xs (o - nodes p)) (attempts-are 0 p))
+
+  pub attempt_offset : (p : Plan M G) (node attempt : ℕ) → offset_of p (Attempt node attempt) ≡ option_map (λ i. nodes p + i) (position (is_same (Attempt node attempt)) (attempts_by (leaf_nodes 0 p) (leaf_counts p)))
+  unfolding offset_of versions
+  attempt_offset p node attempt =
+      position-past node attempt 0 (nodes p) (attempt_versions 0 p) ∙ ap (λ xs. option_map (λ i. nodes p + i) (position (is_same (Attempt node attempt)) xs)) (attempts-are 0 p)
+
+  pub leaves_rise : (p : Plan M G) → IsRising (leaf_nodes 0 p)
+  leaves_rise p = rises 0 (0 + nodes p) (leaf_nodes 0 p) (leaves-rise 0 p)
+
+  pub attempts_differ : (p : Plan M G) → IsDistinct is_same (attempts_by (leaf_nodes 0 p) (leaf_counts p))
+  attempts_differ p = subst (IsDistinct is_same) (attempts-are 0 p) (attempts-distinct 0 p)
+
+  pub few_attempts : (p : Plan M G) → nodes p + total (leaf_counts p) ≡ width p
+  few_attempts p = let a = total-counts p in let w = width-is p in omega (arith, a, w)

@@ -1,0 +1,14 @@
+-- What a plan keeps beside its tree: counts and the table of its leaves.
+use Rattle.std.specs.Prelude.{◌≡◌, ◌≤◌}
+use Rattle.tree_model.specs.Versions.{nodes, width}
+use Rattle.chan_tree.specs.declared.plans.Plan.TheInside.{Inside}
+use Rattle.chan_tree.specs.Table.{firsts_from, leaf_nodes, leaf_counts}
+
+module _ {M G : Type 0} where
+  pub record IsTabled (a : Inside M G) : Type 0 where
+    pub nodes_are : a.nodes ≡ nodes a.tree
+    pub width_is : a.width ≡ width a.tree
+    pub few : a.width ≤ 1024
+    pub leaves_are : a.leaves.items ≡ leaf_nodes 0 a.tree
+    pub firsts_are : a.firsts.items ≡ firsts_from 0 (leaf_counts a.tree)
+    pub counts_are : a.counts.items ≡ leaf_counts a.tree

@@ -1,0 +1,19 @@
+//! The plan of a call: the tree of its nodes, and the ids that its nodes and attempts get.
+#![tactic(auto)]
+
+mod building;
+mod measuring;
+mod places;
+mod planning;
+mod plans;
+mod table;
+mod tree;
+
+pub use measuring::Measure;
+pub use planning::{PlanFault, plan};
+pub use plans::Plan;
+pub use tree::{PlanNode, PlanTree, Rule};
+pub use tree_model::{Chan, ParChan, PartChan, SelChan, Sub, Tag};
+
+#[cfg(test)]
+mod tests;

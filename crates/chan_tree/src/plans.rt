@@ -1,0 +1,131 @@
+ghost use Rattle.std.specs.Prelude.{◌≡◌, ℕ, ◌<◌, ◌≤◌, Option, None, Some, IfOk};
+ghost use Rattle.tree_model.specs.Versions as versions;
+ghost use Rattle.tree_model.specs.declared.meaning.Meaning.TheVariants as meaning;
+
+use crate::table::{Table, add_tree, attempt_at, place_of};
+use crate::tree::PlanTree;
+use rpc_base::NoMemory;
+use std::alloc::Global;
+use std::marker::Model;
+use tree_model::Meaning;
+
+/// The plan of a call. Its range of ids has one version for each node and one for each attempt that a leaf may issue.
+#[derive(Drop)]
+pub struct Plan<M, G> {
+    tree: PlanTree<M, G>,
+    nodes: u32,
+    width: u32,
+    leaves: Vec<u32>,
+    firsts: Vec<u32>,
+    counts: Vec<u32>,
+}
+
+impl<M, G> Model for Plan<M, G> {
+    ghost use Rattle.tree_model.specs.Plan as spec;
+
+    ghost Value = { spec.Plan M G };
+
+    ghost use Rattle.std.specs.Coded.{codes};
+    ghost use Rattle.chan_tree.specs.Code.{plan_code};
+
+    ghost coded = { plan_code (Prim.hlevel (codes)) };
+
+    ghost view = { λ a. a.tree };
+
+    ghost use Rattle.chan_tree.specs.Tabled.{IsTabled};
+
+    ghost invariant = { IsTabled };
+}
+
+/// A tree with the table of its leaves.
+pub(crate) fn tabled<M: Drop, G: Drop>(
+    alloc: Global,
+    tree: PlanTree<M, G>,
+) -> Result<Plan<M, G>, NoMemory>
+    requires few { versions.width tree ≤ 1024 }
+    ensures { IfOk result (λ p. p ≡ tree) }
+{
+    let mut table = Table {
+        nodes: 0,
+        attempts: 0,
+        leaves: Vec::new(alloc),
+        firsts: Vec::new(alloc),
+        counts: Vec::new(alloc),
+    };
+    add_tree(&tree, &mut table)?;
+    let Table {
+        nodes,
+        attempts,
+        leaves,
+        firsts,
+        counts,
+    } = table;
+    Ok(Plan {
+        tree,
+        nodes,
+        width: nodes + attempts,
+        leaves,
+        firsts,
+        counts,
+    })
+}
+
+impl<M, G> Plan<M, G> {
+    /// How many ids the range of a call has.
+    pub fn width(&self) -> u32
+        ensures { result ≡ versions.width self.now }
+    {
+        self.width
+    }
+
+    /// How many nodes there are.
+    pub fn nodes(&self) -> u32
+        ensures { result ≡ versions.nodes self.now }
+    {
+        self.nodes
+    }
+
+    /// The offset of a node's version in the range.
+    #[tactic(auto, using(crate::proofs::Offsets::node_offset))]
+    pub fn offset_of_node(&self, node: u32) -> u32
+        requires there { node < versions.nodes self.now }
+        ensures { Some result ≡ versions.offset_of self.now (meaning.Node node) }
+    {
+        node
+    }
+
+    /// The offset of an attempt's version in the range: none exactly where the node isn't a leaf or has no such attempt.
+    #[tactic(auto, using(crate::proofs::Offsets::attempt_offset, crate::proofs::Offsets::leaves_rise, crate::proofs::Offsets::attempts_differ, crate::proofs::Offsets::few_attempts, crate::proofs::Tables::same_length))]
+    pub fn offset_of_attempt(&self, node: u32, attempt: u32) -> Option<u32>
+        ensures { result ≡ versions.offset_of self.now (meaning.Attempt node attempt) }
+    {
+        let place = place_of(
+            self.leaves.as_slice(),
+            self.firsts.as_slice(),
+            self.counts.as_slice(),
+            node,
+            attempt,
+        )?;
+        Some(self.nodes + place)
+    }
+
+    /// What the version at an offset is of: none exactly where the offset isn't below the width.
+    #[tactic(auto, using(crate::proofs::Offsets::node_meaning, crate::proofs::Offsets::past_meaning, crate::proofs::Offsets::attempt_meaning, crate::proofs::Offsets::few_attempts, crate::proofs::Tables::same_length, crate::proofs::Tables::some_counts))]
+    pub fn meaning_of(&self, offset: u32) -> Option<Meaning>
+        ensures { result ≡ versions.meaning_of self.now offset }
+    {
+        if offset < self.nodes {
+            return Some(Meaning::Node(offset));
+        }
+        if offset >= self.width {
+            return None;
+        }
+        let (node, attempt) = attempt_at(
+            self.leaves.as_slice(),
+            self.firsts.as_slice(),
+            self.counts.as_slice(),
+            offset - self.nodes,
+        );
+        Some(Meaning::Attempt(node, attempt))
+    }
+}

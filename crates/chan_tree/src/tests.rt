@@ -1,0 +1,211 @@
+use super::*;
+use rpc_base::List;
+use rpc_model::LeafChan;
+use std::alloc::{AllocError, Global};
+use std::test::Fail;
+use tree_model::{MapKind, Meaning, MergeKind};
+
+type Kinds = Chan<MapKind, MergeKind>;
+
+fn leaf(alloc: Global, retry: u32) -> Result<Kinds, AllocError> {
+    let servers = List::of(Vec::from_slice(alloc, &[0, 1])?);
+    Ok(Chan::Leaf(LeafChan {
+        servers,
+        retry,
+        backup: None,
+        timeout: None,
+    }))
+}
+
+fn par(alloc: Global, subs: &[u32]) -> Result<Kinds, AllocError> {
+    let mut list = Vec::new(alloc);
+    for chan in subs {
+        list.push(Sub {
+            map: MapKind::Same,
+            merge: MergeKind::Cat,
+            chan: *chan,
+        })?;
+    }
+    Ok(Chan::Par(ParChan {
+        subs: List::of(list),
+        fail: 0,
+        ok: 0,
+        timeout: None,
+    }))
+}
+
+fn sel(alloc: Global, retry: u32, subs: &[u32]) -> Result<Kinds, AllocError> {
+    let subs = List::of(Vec::from_slice(alloc, subs)?);
+    Ok(Chan::Sel(SelChan {
+        subs,
+        retry,
+        timeout: None,
+    }))
+}
+
+fn part(alloc: Global, parts: u32, tags: &[(u32, u32)]) -> Result<Kinds, AllocError> {
+    let mut list = Vec::new(alloc);
+    for (part, of) in tags {
+        list.push(Tag {
+            server: 0,
+            part: *part,
+            of: *of,
+        })?;
+    }
+    Ok(Chan::Part(PartChan {
+        parts,
+        tags: List::of(list),
+        map: MapKind::Split,
+        merge: MergeKind::Cat,
+        retry: 3,
+        backup: None,
+        fail: 0,
+        ok: 0,
+        timeout: None,
+    }))
+}
+
+/// A parallel channel of two below another one, which asks a plain one too.
+fn nested(alloc: Global) -> Result<Vec<Kinds>, AllocError> {
+    let mut chans = Vec::new(alloc);
+    chans.push(leaf(alloc, 0)?)?;
+    chans.push(par(alloc, &[0, 0])?)?;
+    chans.push(par(alloc, &[1, 0])?)?;
+    Ok(chans)
+}
+
+#[test]
+fn offsets_are_places_among_the_versions(rt: HostRuntime) -> Result<(), Fail> {
+    let chans = nested(rt.alloc())?;
+    let Ok(plan) = plan(rt.alloc(), &chans, 2, 1) else {
+        assert!(rt; false, "the plan is refused");
+        return Ok(());
+    };
+    assert_eq!(rt; plan.nodes(), 5);
+    assert_eq!(rt; plan.width(), 8);
+    for node in 0..5 {
+        assert_eq!(rt; plan.offset_of_node(node), node);
+        assert_eq!(rt; plan.meaning_of(node), Some(Meaning::Node(node)));
+    }
+    let rows = [
+        (2, 0, Some(5)),
+        (3, 0, Some(6)),
+        (4, 0, Some(7)),
+        (1, 0, None),
+        (4, 1, None),
+        (5, 0, None),
+    ];
+    for (node, attempt, offset) in rows {
+        assert_eq!(rt;
+            plan.offset_of_attempt(node, attempt),
+            offset,
+            "at {node}#{attempt}"
+        );
+    }
+    assert_eq!(rt; plan.meaning_of(5), Some(Meaning::Attempt(2, 0)));
+    assert_eq!(rt; plan.meaning_of(7), Some(Meaning::Attempt(4, 0)));
+    assert_eq!(rt; plan.meaning_of(8), None);
+    Ok(())
+}
+
+/// The fault that the last channel is refused with.
+fn fault(alloc: Global, chans: &[Kinds], call: u32) -> Option<PlanFault> {
+    let last = chans.len().wrapping_sub(1);
+    plan(alloc, chans, last as u32, call).err()
+}
+
+#[test]
+fn a_chain_of_eight_channels_and_of_nine(rt: HostRuntime) -> Result<(), Fail> {
+    let mut chans = Vec::new(rt.alloc());
+    chans.push(leaf(rt.alloc(), 0)?)?;
+    for below in 0..8 {
+        let wanted = None;
+        assert_eq!(rt; fault(rt.alloc(), &chans, 1), wanted, "at depth {below}");
+        if below % 2 == 0 {
+            chans.push(par(rt.alloc(), &[below])?)?;
+        } else {
+            chans.push(sel(rt.alloc(), 0, &[0, below])?)?;
+        }
+    }
+    // The ninth is too deep, though the tries of call 2 don't reach the deep sub.
+    assert_eq!(rt; fault(rt.alloc(), &chans, 1), Some(PlanFault::TooDeep(9)));
+    assert_eq!(rt; fault(rt.alloc(), &chans, 2), Some(PlanFault::TooDeep(9)));
+    Ok(())
+}
+
+#[test]
+fn widths_at_the_limit(rt: HostRuntime) -> Result<(), Fail> {
+    // The node, ten leaves of 102 versions each, and a leaf of as many as make the limit or pass it.
+    let rows = [
+        (0, None),
+        (1, None),
+        (2, Some(PlanFault::TooWide(1025))),
+        (100, Some(PlanFault::TooWide(1025))),
+    ];
+    for (retry, wanted) in rows {
+        let mut chans = Vec::new(rt.alloc());
+        chans.push(leaf(rt.alloc(), 100)?)?;
+        chans.push(leaf(rt.alloc(), retry)?)?;
+        chans.push(par(rt.alloc(), &[0, 0, 0, 0, 0, 0, 0, 0, 0, 0, 1])?)?;
+        assert_eq!(rt; fault(rt.alloc(), &chans, 1), wanted, "with {retry}");
+    }
+    Ok(())
+}
+
+#[test]
+fn widths_that_no_plan_could_have(rt: HostRuntime) -> Result<(), Fail> {
+    let mut chans = Vec::new(rt.alloc());
+    chans.push(leaf(rt.alloc(), 100)?)?;
+    let mut below = 0;
+    for _ in 0..7 {
+        let mut subs = Vec::new(rt.alloc());
+        for _ in 0..1000 {
+            subs.push(below)?;
+        }
+        chans.push(par(rt.alloc(), &subs)?)?;
+        below += 1;
+    }
+    assert_eq!(rt;
+        fault(rt.alloc(), &chans, 1),
+        Some(PlanFault::TooWide(1025))
+    );
+    Ok(())
+}
+
+#[test]
+fn parts_without_a_server(rt: HostRuntime) -> Result<(), Fail> {
+    let rows = [
+        ([(0, 2), (1, 2), (0, 3)], None),
+        ([(0, 2), (0, 2), (1, 3)], Some(PlanFault::MissingPart(1))),
+        ([(1, 2), (0, 1), (1, 2)], Some(PlanFault::MissingPart(0))),
+    ];
+    for (tags, wanted) in rows {
+        let mut chans = Vec::new(rt.alloc());
+        chans.push(part(rt.alloc(), 2, &tags)?)?;
+        assert_eq!(rt; fault(rt.alloc(), &chans, 1), wanted, "with {tags:?}");
+        // Behind a selective channel only the tries of this call's number count.
+        chans.push(leaf(rt.alloc(), 0)?)?;
+        chans.push(sel(rt.alloc(), 0, &[0, 1])?)?;
+        assert_eq!(rt; fault(rt.alloc(), &chans, 2), wanted, "with {tags:?}");
+        assert_eq!(rt; fault(rt.alloc(), &chans, 3), None, "with {tags:?}");
+    }
+    Ok(())
+}
+
+#[test]
+fn tries_turn_by_the_calls_number(rt: HostRuntime) -> Result<(), Fail> {
+    let mut chans = Vec::new(rt.alloc());
+    chans.push(leaf(rt.alloc(), 0)?)?;
+    chans.push(leaf(rt.alloc(), 4)?)?;
+    chans.push(par(rt.alloc(), &[0, 0])?)?;
+    chans.push(sel(rt.alloc(), 1, &[0, 1, 2])?)?;
+    let rows = [(3, 9), (4, 12), (5, 8), (6, 9), (4_294_967_295, 9)];
+    for (call, width) in rows {
+        let Ok(plan) = plan(rt.alloc(), &chans, 3, call) else {
+            assert!(rt; false, "the plan is refused");
+            return Ok(());
+        };
+        assert_eq!(rt; plan.width(), width, "of call {call}");
+    }
+    Ok(())
+}

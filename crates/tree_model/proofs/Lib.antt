@@ -1,0 +1,24 @@
+mod Rows
+mod SingleCalls
+mod Digits
+mod Few
+mod Leaves
+mod Soon
+mod Sizes
+mod Sends
+mod Requests
+mod Paths
+mod Parallels
+pub mod Versions
+mod Even
+mod Ended
+mod Replies
+mod Earned
+mod Completions
+mod Early
+mod Once
+mod Logs
+mod Heard
+mod MomentsStay
+mod Runs
+mod Plain
