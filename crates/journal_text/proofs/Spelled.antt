@@ -1,5 +1,5 @@
 -- What is read is the text of the journal that it is read as.
-use Rattle.std.proofs.Common.{◌≡◌, ℕ, ◌+◌, ◌≤◌, Bool, true, false, cond, ◌&&◌, ◌==◌, List, [], ◌∷◌, ◌++◌, length, Option, Some, None, Result, Ok, Err, refl, ap, sym, subst, ◌∙◌, rules, append_assoc, append-nil, codes, bytes_eq, All}
+use Rattle.std.proofs.Common.{◌≡◌, ℕ, ◌+◌, Bool, true, false, cond, ◌&&◌, ◌==◌, List, [], ◌∷◌, ◌++◌, Option, Some, None, Result, Ok, refl, ap, sym, subst, ◌∙◌, rules, append_assoc, append-nil, codes, bytes_eq}
 use Rattle.std.specs.Prelude.{IsTrue}
 use Rattle.std.specs.List.{join_with_byte, slice_split}
 use Rattle.std.proofs.lemmas.Bool.{and_parts}
@@ -11,10 +11,9 @@ use Rattle.rpc_model.specs.declared.line.Line.{Line}
 use Rattle.rpc_model.specs.Texts.{line_text, text_of, journal_lines, journal_text}
 use Rattle.journal_text.specs.declared.draft.Stage.{Stage}
 use Rattle.journal_text.specs.declared.draft.Stage.TheVariants.{Calls, Wires, Marks, Lanes}
-use Rattle.journal_text.specs.Empty.{is_empty}
 use Rattle.journal_text.specs.Writing.{is_line, AreLines, IsWritable}
 use Rattle.journal_text.specs.Reading.{◌>>=◌, words_said, spelled_so, line_of}
-use Rattle.journal_text.specs.Drafts.{Draft, begun, with_line, with_text, or_else, journal_of_draft, finished, with_piece, with_pieces, journal_of}
+use Rattle.journal_text.specs.Drafts.{Draft, begun, with_line, with_text, or_else, journal_of_draft, finished, with_pieces, journal_of}
 use Rattle.journal_text.proofs.Lists.{text_of_append}
 use Rattle.journal_text.proofs.Shown.{lines_at, lines_of, IsKept, Took, took_line}
 

@@ -2,4 +2,5 @@ pub mod Drafts
 pub mod Empty
 pub mod Judging
 pub mod Reading
+pub mod Typed
 pub mod Writing

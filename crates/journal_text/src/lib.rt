@@ -6,6 +6,7 @@
 mod draft;
 mod fault;
 mod kinds;
+mod law;
 mod lines;
 mod numbers;
 mod open;
@@ -15,6 +16,7 @@ mod words;
 mod writing;
 
 pub use fault::JournalFault;
+pub use law::reads_what_is_written;
 pub use reading::read_journal;
 pub use writing::write_journal;
 
