@@ -13,7 +13,7 @@ use Rattle.rpc_model.specs.declared.script.Act.TheVariants.{Call, Cancel, Reply,
 use Rattle.rpc_model.specs.declared.told.Told.{Told}
 use Rattle.rpc_model.specs.declared.told.Told.TheVariants.{Ended}
 use Rattle.rpc_model.specs.Plan.{Plan, leaf_plan, plan}
-use Rattle.rpc_model.specs.Machine.{Mark, MarkKind, deadline, backup, mark_after, end_of, attempts}
+use Rattle.rpc_model.specs.Machine.{Mark, deadline, backup, mark_after, end_of, attempts}
 use Rattle.rpc_model.specs.Marks.{Begun, begin, apply, least_mark, take_mark, weave_at_most, weave_least, most_marks, weave, finish_at_most, finish_least, finish}
 use Rattle.rpc_model.specs.Told.{Standing, begun, full, told_of, Replay, number_of, is_call, is_begun, is_full, change_first, stand_new, call_after, event_after, call_event, stand_joined, joined, joined_moment, join_end, join_tells, call_join, call_tells, after, tells, told_from}
 use Rattle.rpc_model.specs.Early.{settle, settled, IsSparse, AreSparse}
@@ -260,7 +260,7 @@ changed-sparse test f (x ∷ xs) keeps few = by (test x) (changed-sparse test f 
     by true tail = (keeps x few.0, few.1)
     by false tail = (few.0, tail)
 
-mark-few : (o : Option ℕ) (node moment : ℕ) (kind : MarkKind) → length (mark_after o node moment kind) ≤ 1
+mark-few : (o : Option ℕ) (node moment : ℕ) (kind : Bool) → length (mark_after o node moment kind) ≤ 1
 mark-few None node moment kind = omega arith
 mark-few (Some wait) node moment kind = omega arith
 

@@ -12,7 +12,7 @@ use Rattle.rpc_model.specs.declared.script.Act.TheVariants.{Call, Cancel, Reply,
 use Rattle.rpc_model.specs.Fits.{IsChan, IsLeaf, IsWait, moment_of}
 use Rattle.rpc_model.specs.Leaf.{leaf_step}
 use Rattle.rpc_model.specs.Plan.{Plan, leaf_plan, plan}
-use Rattle.rpc_model.specs.Machine.{State, leaf_state, Mark, MarkKind, deadline, backup, step, step_at, is_at, leaf_run, quiet, end_of, mark_after}
+use Rattle.rpc_model.specs.Machine.{State, leaf_state, Mark, deadline, backup, step, step_at, is_at, leaf_run, quiet, end_of, mark_after}
 use Rattle.rpc_model.specs.Marks.{Begun, begin, apply, least_mark, lesser, is_before, take_mark, mark_event, weave_at_most, weave_least, most_marks, weave, finish_at_most, finish_least}
 use Rattle.rpc_model.specs.Told.{Standing, begun, full, told_of, Replay, change_first, stand_new, call_after, is_full, event_after, stand_joined, joined, joined_moment, is_call, call_event, call_join, after}
 use Rattle.rpc_model.specs.Moments.{MarkBy, StandsBy, IsBy}
@@ -49,7 +49,7 @@ least-by b [] h = tt
 least-by b (x ∷ xs) h = lesser-by b x xs (least_mark xs) (All-head (MarkBy b) x xs h) (All-tail (MarkBy b) x xs h) (least-by b xs (All-tail (MarkBy b) x xs h))
 
 take_mark-by : (b : ℕ) (c : Begun) (mark : Mark) (others : List Mark) → All (MarkBy b) others → All (MarkBy b) (take_mark c mark others).waiting
-take_mark-by b c mark others h = apply-by b (record c { waiting = others }) (mark_event mark.node mark.kind) mark.moment h
+take_mark-by b c mark others h = apply-by b (record c { waiting = others }) (mark_event mark.node mark.backup) mark.moment h
 
 weave_least-by : (b : ℕ) (again : Begun → Begun) (moment : ℕ) (c : Begun) (o : Option (Mark × List Mark)) → ((d : Begun) → All (MarkBy b) d.waiting → All (MarkBy b) (again d).waiting)
     → All (MarkBy b) c.waiting → LeastBy b o → All (MarkBy b) (weave_least again moment c o).waiting
@@ -142,7 +142,7 @@ plan-leaf n [] number call h = tt
 plan-leaf n (chan.Leaf leaf ∷ chans) zero call h = All-head (IsChan n) (chan.Leaf leaf) chans h
 plan-leaf n (x ∷ chans) (suc number) call h = plan-leaf n chans number call (All-tail (IsChan n) x chans h)
 
-mark_after-by : (b : ℕ) (o : Option ℕ) (node moment : ℕ) (kind : MarkKind) → moment ≤ b → IsWait o → All (MarkBy b) (mark_after o node moment kind)
+mark_after-by : (b : ℕ) (o : Option ℕ) (node moment : ℕ) (kind : Bool) → moment ≤ b → IsWait o → All (MarkBy b) (mark_after o node moment kind)
 mark_after-by b None node moment kind early h = All-nil (MarkBy b)
 mark_after-by b (Some wait) node moment kind early h = All-cons (MarkBy b) _ [] (let short : wait < 2 ^ 31 = h in omega arith) (All-nil (MarkBy b))
 

@@ -15,7 +15,7 @@ use Rattle.rpc_model.proofs.Once.{weave-call}
 
 -- A taken mark leaves the others.
 pub taken-waits : (b : Begun) (mark : Mark) (others : List Mark) → (take_mark b mark others).waiting ≡ others
-taken-waits b mark others = ap (λ ms. others ++ ms) (step-sets b.plan b.call b.request b.state (mark_event mark.node mark.kind) mark.moment) ∙ append-nil others
+taken-waits b mark others = ap (λ ms. others ++ ms) (step-sets b.plan b.call b.request b.state (mark_event mark.node mark.backup) mark.moment) ∙ append-nil others
 
 others-length : (p q : Mark × List Mark) → Some p ≡ Some q → length p.1 ≡ length q.1
 others-length p q e = let same : p ≡ q = cc in ap (λ (x : Mark × List Mark). length x.1) same
@@ -178,7 +178,7 @@ some-end None e = absurd (cc)
 some-end (Some end) e = (end, refl)
 
 taken-ended : (b : Begun) (mark : Mark) (others : List Mark) → is_some (end_of b.state) ≡ true → (take_mark b mark others).state ≡ b.state
-taken-ended b mark others h = let s = some-end (end_of b.state) h in step-ended b.plan b.call b.request b.state (mark_event mark.node mark.kind) mark.moment s.0 s.1
+taken-ended b mark others h = let s = some-end (end_of b.state) h in step-ended b.plan b.call b.request b.state (mark_event mark.node mark.backup) mark.moment s.0 s.1
 
 ended-due : (k r : ℕ) (b : Begun) (mark : Mark) (others : List Mark) (v : Bool) → (weave_at_most k r (take_mark b mark others)).state ≡ b.state → (cond v (weave_at_most k r (take_mark b mark others)) b).state ≡ b.state
 ended-due k r b mark others true h = h

@@ -1,7 +1,9 @@
 -- The plain machine of a call: its state, what it sends, and the marks that it sets. brpc's documents on the client, with this project's own choices where they leave one.
-use Rattle.std.specs.Prelude.{ℕ, ◌+◌, ◌%◌, Bool, ◌==◌, nat_lt, List, [], ◌∷◌, ◌++◌, length, fold, slice_index, Option, None, Some, is_none, if◌then◌else◌}
+use Rattle.std.specs.Prelude.{ℕ, ◌+◌, ◌%◌, Bool, true, false, ◌==◌, nat_lt, List, [], ◌∷◌, ◌++◌, length, fold, slice_index, Option, None, Some, is_none, if◌then◌else◌}
 use Rattle.rpc_model.specs.declared.codes.TheConstants.{ECANCELED}
 use Rattle.rpc_model.specs.declared.chan.LeafChan.{LeafChan}
+use Rattle.rpc_model.specs.declared.effects.Send as effect
+use Rattle.rpc_model.specs.declared.effects.MarkAt.{MarkAt}
 use Rattle.rpc_model.specs.declared.event.End.{End}
 use Rattle.rpc_model.specs.declared.event.End.TheVariants.{Bad}
 use Rattle.rpc_model.specs.declared.event.Event.{Event}
@@ -14,20 +16,19 @@ pub data State : Type 0 where
   leaf_state : Leaf → State
 
 -- a request goes out: which attempt of which leaf, to which server, with what payload
-pub record Send : Type 0 where
-  pub node : ℕ
-  pub attempt : ℕ
-  pub server : ℕ
-  pub payload : List ℕ
-
-pub data MarkKind : Type 0 where
-  deadline backup : MarkKind
+abbrev pub Send : Type 0
+Send = effect.Send
 
 -- a moment at which a node's deadline or backup request is due
-pub record Mark : Type 0 where
-  pub moment : ℕ
-  pub node : ℕ
-  pub kind : MarkKind
+abbrev pub Mark : Type 0
+Mark = MarkAt
+
+-- whether a mark is of a backup request
+abbrev pub deadline : Bool
+deadline = false
+
+abbrev pub backup : Bool
+backup = true
 
 -- a state, and the sends and the marks that came about on the way to it, in order
 pub record Run : Type 0 where
@@ -51,9 +52,9 @@ abbrev pub sent : LeafChan → ℕ → ℕ → List ℕ → ℕ → ℕ → List
 sent leaf call node request before now =
     if nat_lt before now then record { node = node; attempt = before; server = server_of leaf call before; payload = request } ∷ [] else []
 
-abbrev pub mark_after : Option ℕ → ℕ → ℕ → MarkKind → List Mark
+abbrev pub mark_after : Option ℕ → ℕ → ℕ → Bool → List Mark
 mark_after None node moment kind = []
-mark_after (Some wait) node moment kind = record { moment = moment + wait; node = node; kind = kind } ∷ []
+mark_after (Some wait) node moment kind = record { moment = moment + wait; node = node; backup = kind } ∷ []
 
 -- the marks that starting a leaf at a moment sets
 abbrev pub leaf_marks : LeafChan → ℕ → ℕ → List Mark

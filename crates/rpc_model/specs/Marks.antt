@@ -1,9 +1,9 @@
 -- The marks of a call that are waiting, and the order in which they are taken between the call's events. This project's own choice.
-use Rattle.std.specs.Prelude.{ℕ, zero, suc, ◌+◌, ◌*◌, Bool, ◌==◌, ◌&&◌, ◌||◌, nat_lt, nat_le, max, List, [], ◌∷◌, ◌++◌, Option, None, Some, is_some, if◌then◌else◌}
+use Rattle.std.specs.Prelude.{ℕ, zero, suc, ◌+◌, ◌*◌, Bool, true, false, ◌==◌, ◌&&◌, ◌||◌, nat_lt, nat_le, max, List, [], ◌∷◌, ◌++◌, Option, None, Some, is_some, if◌then◌else◌}
 use Rattle.rpc_model.specs.declared.event.Event.{Event}
 use Rattle.rpc_model.specs.declared.event.Event.TheVariants as event
 use Rattle.rpc_model.specs.Plan.{Plan, nodes}
-use Rattle.rpc_model.specs.Machine.{State, Mark, MarkKind, deadline, backup, start, step, end_of}
+use Rattle.rpc_model.specs.Machine.{State, Mark, start, step, end_of}
 
 -- a call that has begun: what it is, how it stands, and its marks that were set and not yet taken
 pub record Begun : Type 0 where
@@ -27,11 +27,11 @@ apply b event moment =
 
 -- at one moment the marks are ordered by node, and a deadline stands before a backup request of its node
 abbrev pub rank : Mark → ℕ
-rank mark = kind_rank mark.node mark.kind
+rank mark = kind_rank mark.node mark.backup
   where
-    kind_rank : ℕ → MarkKind → ℕ
-    kind_rank node deadline = 2 * node
-    kind_rank node backup = 2 * node + 1
+    kind_rank : ℕ → Bool → ℕ
+    kind_rank node false = 2 * node
+    kind_rank node true = 2 * node + 1
 
 abbrev pub is_before : Mark → Mark → Bool
 is_before a b = nat_lt a.moment b.moment || (a.moment == b.moment && nat_lt (rank a) (rank b))
@@ -45,13 +45,13 @@ abbrev pub least_mark : List Mark → Option (Mark × List Mark)
 least_mark [] = None
 least_mark (mark ∷ marks) = lesser mark marks (least_mark marks)
 
-abbrev pub mark_event : ℕ → MarkKind → Event
-mark_event node deadline = event.Deadline node
-mark_event node backup = event.Backup node
+abbrev pub mark_event : ℕ → Bool → Event
+mark_event node false = event.Deadline node
+mark_event node true = event.Backup node
 
 -- a mark is taken at its own moment
 abbrev pub take_mark : Begun → Mark → List Mark → Begun
-take_mark b mark others = apply (record b { waiting = others }) (mark_event mark.node mark.kind) mark.moment
+take_mark b mark others = apply (record b { waiting = others }) (mark_event mark.node mark.backup) mark.moment
 
 -- Each node is started at most once and sets at most two marks, so no more are ever set.
 abbrev pub most_marks : Plan → ℕ

@@ -8,6 +8,7 @@
 mod chan;
 mod codes;
 mod direction;
+mod effects;
 mod entry;
 mod event;
 mod journal;
@@ -25,6 +26,7 @@ pub use codes::{
     ETOOMANYFAILS, retriable,
 };
 pub use direction::Direction;
+pub use effects::{MarkAt, Send};
 pub use entry::{Entry, Fate, Origin};
 pub use event::{End, Event};
 pub use journal::{CallLog, Came, CancelNote, Fired, How, Journal, LaneLog, LossNote, WireLog};

@@ -144,7 +144,7 @@ take-later b mark others e =
       issues = omega arith;
       few = λ h. h;
     } in
-    later-later b (record b { waiting = others }) (take_mark b mark others) without (apply-later (record b { waiting = others }) (mark_event mark.node mark.kind) mark.moment)
+    later-later b (record b { waiting = others }) (take_mark b mark others) without (apply-later (record b { waiting = others }) (mark_event mark.node mark.backup) mark.moment)
 
 -- ---- all marks
 

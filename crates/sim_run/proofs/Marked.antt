@@ -6,7 +6,7 @@ use Rattle.std.specs.Map.{lookup}
 use Rattle.rpc_model.specs.declared.chan.LeafChan.{LeafChan}
 use Rattle.rpc_model.specs.declared.codes.TheConstants.{ERPCTIMEDOUT, EBACKUPREQUEST}
 use Rattle.rpc_model.specs.Plan.{leaf_plan}
-use Rattle.rpc_model.specs.Machine.{Mark as Waits, MarkKind, deadline, backup, mark_after}
+use Rattle.rpc_model.specs.Machine.{Mark as Waits, deadline, backup, mark_after}
 use Rattle.rpc_model.specs.Marks.{Begun, begin}
 use Rattle.id_pool.specs.Ids.{make_id}
 use Rattle.id_pool.specs.Ranges.{Slot, Vacant, Retired, Taken, Range, change, fresh}
@@ -116,7 +116,7 @@ with_mark-keeps : (first moment rank code id m : ℕ) (wait : Option ℕ) (marks
 with_mark-keeps first moment rank code id m None marks h = h
 with_mark-keeps first moment rank code id m (Some wait) marks h = added-keeps id m (record { moment = moment + wait; rank = rank; id = first; code = code }) marks h
 
-with_mark-own : (first moment rank code node : ℕ) (kind : MarkKind) (wait : Option ℕ) (marks : List Mark) → AllByRecursion (λ (w : Waits). HasMark first w.moment (with_mark first moment wait rank code marks)) (mark_after wait node moment kind)
+with_mark-own : (first moment rank code node : ℕ) (kind : Bool) (wait : Option ℕ) (marks : List Mark) → AllByRecursion (λ (w : Waits). HasMark first w.moment (with_mark first moment wait rank code marks)) (mark_after wait node moment kind)
 with_mark-own first moment rank code node kind None marks = tt
 with_mark-own first moment rank code node kind (Some wait) marks = (added-own (record { moment = moment + wait; rank = rank; id = first; code = code }) marks, tt)
 

@@ -10,10 +10,10 @@ use Rattle.call_leaf.specs.Keeps.{Kept}
 use Rattle.sim_run.specs.Calls.{begun_of, mark_of, taken_due, finished_least, finished_once}
 
 abbrev deadline_at : ℕ → Mark
-deadline_at moment = record { moment = moment; node = 0; kind = deadline }
+deadline_at moment = record { moment = moment; node = 0; backup = deadline }
 
 abbrev backup_at : ℕ → Mark
-backup_at moment = record { moment = moment; node = 0; kind = backup }
+backup_at moment = record { moment = moment; node = 0; backup = backup }
 
 -- A deadline that isn't due later comes first.
 deadline-first : (d b : ℕ) → d ≤ b → least_mark (deadline_at d ∷ backup_at b ∷ []) ≡ Some (deadline_at d, backup_at b ∷ [])

@@ -5,7 +5,7 @@ use Rattle.rpc_model.specs.declared.event.Event.{Event}
 use Rattle.rpc_model.specs.declared.chan.LeafChan.{LeafChan}
 use Rattle.rpc_model.specs.Leaf.{Leaf, leaf_step}
 use Rattle.rpc_model.specs.Plan.{Plan, leaf_plan}
-use Rattle.rpc_model.specs.Machine.{State, leaf_state, end_of, Mark, MarkKind, deadline, backup}
+use Rattle.rpc_model.specs.Machine.{State, leaf_state, end_of, Mark, deadline, backup}
 use Rattle.rpc_model.specs.Marks.{Begun, least_mark, take_mark}
 use Rattle.call_leaf.specs.Keeps.{Kept}
 
@@ -14,9 +14,9 @@ abbrev pub leaf_with : Kept → Option End → Leaf
 leaf_with kept end = record { issued = kept.issued; current = kept.current; older = kept.older; backed_up = kept.backed_up; end = end }
 
 -- a mark of the root, while it waits
-abbrev pub mark_of : Option ℕ → MarkKind → List Mark
+abbrev pub mark_of : Option ℕ → Bool → List Mark
 mark_of None kind = []
-mark_of (Some moment) kind = record { moment = moment; node = 0; kind = kind } ∷ []
+mark_of (Some moment) kind = record { moment = moment; node = 0; backup = kind } ∷ []
 
 abbrev pub begun_of : ℕ → LeafChan → List ℕ → Kept → Option End → Option ℕ → Option ℕ → Begun
 begun_of call chan request kept end due back_up =

@@ -52,8 +52,8 @@ least-zero (x ∷ xs) h = absurd (omega (arith, h))
 pub taken-left : (b : Begun) (mark : Mark) (others : List Mark) → least_mark b.waiting ≡ Some (mark, others) → suc (marks_left (take_mark b mark others)) ≤ marks_left b
 taken-left b mark others e =
     let l = least-length b.waiting mark others e in
-    let run = step script_kinds b.call b.state (mark_event mark.node mark.kind) mark.moment in
-    let few = call-step-few script_kinds b.call b.state (mark_event mark.node mark.kind) mark.moment in
+    let run = step script_kinds b.call b.state (mark_event mark.node mark.backup) mark.moment in
+    let few = call-step-few script_kinds b.call b.state (mark_event mark.node mark.backup) mark.moment in
     let a = set_all-length run.marks others in
     omega (arith, l, few, a)
 
@@ -191,7 +191,7 @@ some-end None e = absurd (cc)
 some-end (Some end) e = (end, refl)
 
 taken-ended : (b : Begun) (mark : Mark) (others : List Mark) → is_some (end_of b.state) ≡ true → (take_mark b mark others).state ≡ b.state
-taken-ended b mark others h = let s = some-end (end_of b.state) h in step-ended script_kinds b.call b.state (mark_event mark.node mark.kind) mark.moment s.0 s.1
+taken-ended b mark others h = let s = some-end (end_of b.state) h in step-ended script_kinds b.call b.state (mark_event mark.node mark.backup) mark.moment s.0 s.1
 
 ended-due : (k r : ℕ) (b : Begun) (mark : Mark) (others : List Mark) (v : Bool) → (weave_at_most k r (take_mark b mark others)).state ≡ b.state
     → (cond v (weave_at_most k r (take_mark b mark others)) b).state ≡ b.state

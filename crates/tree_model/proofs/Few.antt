@@ -4,7 +4,7 @@ use Rattle.rpc_model.specs.declared.event.End.{End}
 use Rattle.rpc_model.specs.declared.event.Event.{Event}
 use Rattle.rpc_model.specs.declared.event.Event.TheVariants as event
 use Rattle.rpc_model.specs.Leaf.{leaf_step}
-use Rattle.rpc_model.specs.Machine.{MarkKind, deadline, backup, mark_after}
+use Rattle.rpc_model.specs.Machine.{deadline, backup, mark_after}
 use Rattle.tree_model.specs.declared.mapper.Mapped.{Mapped}
 use Rattle.tree_model.specs.declared.mapper.Mapped.TheVariants as answer
 use Rattle.tree_model.specs.Marks.{unstarted, unstarted_of}
@@ -23,7 +23,7 @@ module _ {M G : Type 0} (kinds : Kinds M G) where
   abbrev AreFew : ℕ → Below M G → Type 0
   AreFew n below = length below.marks + 2 * unstarted_of below.states ≤ 2 * n
 
-  mark-few : (o : Option ℕ) (node moment : ℕ) (kind : MarkKind) → length (mark_after o node moment kind) ≤ 1
+  mark-few : (o : Option ℕ) (node moment : ℕ) (kind : Bool) → length (mark_after o node moment kind) ≤ 1
   mark-few None node moment kind = omega arith
   mark-few (Some wait) node moment kind = omega arith
 

@@ -12,7 +12,7 @@ use Rattle.rpc_model.specs.declared.script.Act.TheVariants.{Call, Cancel, Reply,
 use Rattle.rpc_model.specs.declared.told.Told.{Told}
 use Rattle.rpc_model.specs.declared.told.Told.TheVariants.{Ended, Unended}
 use Rattle.rpc_model.specs.Laws.{is_end_of}
-use Rattle.rpc_model.specs.Machine.{Mark, MarkKind, deadline, backup}
+use Rattle.rpc_model.specs.Machine.{Mark, deadline, backup}
 use Rattle.tree_model.specs.Marks.{Begun, begin, apply, marks_left, least_mark, take_mark, mark_event, weave_at_most, weave_least, weave, finish_at_most, finish_least, finish}
 use Rattle.tree_model.specs.Told.{Script, Standing, begun, told_of, Replay, unbegun, number_of, is_call, is_full, change_first, stand_new, call_after, event_after, call_event, stand_joined, joined, join_end, join_tells, after, tells, told_from, told}
 use Rattle.tree_model.specs.Logs.{own_event, own_events, is_mark, outer, behind, take, IsFirst, NoneIsDue, ComesNext, AreWoven, EndsBy}
@@ -59,13 +59,13 @@ took-then xs ys b d e h k = record {
 
 -- ---- a mark
 
-kind-next : (b : Begun) (moment node : ℕ) (kind : MarkKind) → IsFirst (record { moment = moment; node = node; kind = kind }) b.waiting → ComesNext b (mark_event node kind) moment
-kind-next b moment node deadline h = h
-kind-next b moment node backup h = h
+kind-next : (b : Begun) (moment node : ℕ) (kind : Bool) → IsFirst (record { moment = moment; node = node; backup = kind }) b.waiting → ComesNext b (mark_event node kind) moment
+kind-next b moment node false h = h
+kind-next b moment node true h = h
 
-kind-mark : (node : ℕ) (kind : MarkKind) → is_mark (mark_event node kind) ≡ true
-kind-mark node deadline = refl
-kind-mark node backup = refl
+kind-mark : (node : ℕ) (kind : Bool) → is_mark (mark_event node kind) ≡ true
+kind-mark node false = refl
+kind-mark node true = refl
 
 first-of : (ms : List Mark) (mark : Mark) (others : List Mark) → least_mark ms ≡ Some (mark, others) → IsFirst mark ms × (behind true ms ≡ others)
 first-of [] mark others e = absurd (cc)
@@ -74,12 +74,12 @@ first-of (m ∷ ms) mark others e = let same : (m, ms) ≡ (mark, others) = cc i
 took-mark : (b : Begun) (mark : Mark) (others : List Mark) → least_mark b.waiting ≡ Some (mark, others) → Took [] b (take_mark b mark others)
 took-mark b mark others e =
     let f = first-of b.waiting mark others e in
-    let event = mark_event mark.node mark.kind in
-    let is = kind-mark mark.node mark.kind in
+    let event = mark_event mark.node mark.backup in
+    let is = kind-mark mark.node mark.backup in
     record {
       events = (event, mark.moment) ∷ [];
       own = ap (λ v. cond v [] ((event, mark.moment) ∷ [])) is;
-      woven = (kind-next b mark.moment mark.node mark.kind f.0, tt);
+      woven = (kind-next b mark.moment mark.node mark.backup f.0, tt);
       reaches = ap (λ ws. apply (record b { waiting = ws }) event mark.moment) (ap (λ v. behind v b.waiting) is ∙ f.1);
     }
 

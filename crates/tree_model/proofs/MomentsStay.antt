@@ -109,7 +109,7 @@ taken-by : (bound : ℕ) (b : Begun) (mark : Mark) (others : List Mark) → leas
 unfolding InTime
 taken-by bound b mark others e h =
     let first = split b.waiting e h.marks in
-    (first.0, apply-by bound (record b { waiting = others }) (mark_event mark.node mark.kind) mark.moment first.0 (record { marks = first.1; short = h.short; few = h.few }))
+    (first.0, apply-by bound (record b { waiting = others }) (mark_event mark.node mark.backup) mark.moment first.0 (record { marks = first.1; short = h.short; few = h.few }))
   where
     split : (xs : List Mark) → least_mark xs ≡ Some (mark, others) → AllByRecursion (MarkBy bound (unstarted b.state)) xs → MarkBy bound (unstarted b.state) mark
         × AllByRecursion (MarkBy bound (unstarted b.state)) others

@@ -103,12 +103,12 @@ same-least (x ∷ y ∷ []) few = two-marks x y (is_before y x) refl
 same-least (x ∷ y ∷ z ∷ marks) few = absurd (omega (arith, few))
 
 same-take : (b : plain_marks.Begun) (mark : Mark) (others : List Mark) → take_mark (tree_call b) mark (sorted others) ≡ tree_call (plain_marks.take_mark b mark others)
-same-take b mark others = same-event mark.kind
+same-take b mark others = same-event mark.backup
   where
-    same-event : (kind : plain_machine.MarkKind) → apply (record (tree_call b) { waiting = sorted others }) (mark_event mark.node kind) mark.moment
+    same-event : (kind : Bool) → apply (record (tree_call b) { waiting = sorted others }) (mark_event mark.node kind) mark.moment
         ≡ tree_call (plain_marks.apply (record b { waiting = others }) (plain_marks.mark_event mark.node kind) mark.moment)
-    same-event plain_machine.deadline = same-apply (record b { waiting = others }) (event.Deadline mark.node) mark.moment
-    same-event plain_machine.backup = same-apply (record b { waiting = others }) (event.Backup mark.node) mark.moment
+    same-event false = same-apply (record b { waiting = others }) (event.Deadline mark.node) mark.moment
+    same-event true = same-apply (record b { waiting = others }) (event.Backup mark.node) mark.moment
 
 -- a plain call has two marks at the most
 few-left : (b : plain_marks.Begun) → length b.waiting ≤ 2 → marks_left (tree_call b) ≤ 2

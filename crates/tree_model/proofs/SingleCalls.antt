@@ -6,7 +6,8 @@ use Rattle.rpc_model.specs.declared.event.End.TheVariants.{Good, Bad}
 use Rattle.rpc_model.specs.declared.event.Event.{Event}
 use Rattle.rpc_model.specs.declared.event.Event.TheVariants.{Reply, Lost, Backup, Deadline, Cancel}
 use Rattle.rpc_model.specs.Codes.{retriable}
-use Rattle.rpc_model.specs.Machine.{Send, Mark, MarkKind, deadline, backup}
+use Rattle.std.specs.Prelude.{Bool}
+use Rattle.rpc_model.specs.Machine.{Send, Mark, deadline, backup}
 use Rattle.tree_model.specs.declared.chan.Chan.{Chan}
 use Rattle.tree_model.specs.declared.chan.Chan.TheVariants as chan
 use Rattle.tree_model.specs.declared.chan.Sub.{Sub}
@@ -38,8 +39,8 @@ par fail ok subs = chan.Par (record { subs = subs; fail = fail; ok = ok; timeout
 abbrev send : ℕ → ℕ → ℕ → List ℕ → Send
 send node attempt server payload = record { node = node; attempt = attempt; server = server; payload = payload }
 
-abbrev mark : ℕ → ℕ → MarkKind → Mark
-mark moment node kind = record { moment = moment; node = node; kind = kind }
+abbrev mark : ℕ → ℕ → Bool → Mark
+mark moment node kind = record { moment = moment; node = node; backup = kind }
 
 -- the run of a call of this number on the channel of a number, with this request, from moment 0 on
 abbrev run : Chans → ℕ → ℕ → List ℕ → List (Event × ℕ) → Option (Run MapKind MergeKind)

@@ -4,7 +4,7 @@ use Rattle.std.specs.List.{AllByRecursion}
 use Rattle.rpc_model.specs.declared.event.End.{End}
 use Rattle.rpc_model.specs.declared.event.Event.{Event}
 use Rattle.rpc_model.specs.Fits.{IsWait}
-use Rattle.rpc_model.specs.Machine.{Mark, MarkKind, deadline, backup, mark_after}
+use Rattle.rpc_model.specs.Machine.{Mark, deadline, backup, mark_after}
 use Rattle.tree_model.specs.declared.mapper.Mapped.{Mapped}
 use Rattle.tree_model.specs.declared.mapper.Mapped.TheVariants as answer
 use Rattle.tree_model.specs.Soon.{IsShort, AreShort, WaitsShortly, WaitShortly, IsSoon, RunIsSoon, BelowIsSoon}
@@ -21,7 +21,7 @@ module _ {M G : Type 0} (kinds : Kinds M G) where
   append-soon m [] ys h hs = hs
   append-soon m (x ∷ xs) ys h hs = (h.0, append-soon m xs ys h.1 hs)
 
-  mark-soon : (o : Option ℕ) (node m : ℕ) (kind : MarkKind) → IsWait o → AllByRecursion (IsSoon m) (mark_after o node m kind)
+  mark-soon : (o : Option ℕ) (node m : ℕ) (kind : Bool) → IsWait o → AllByRecursion (IsSoon m) (mark_after o node m kind)
   mark-soon None node m kind h = tt
   mark-soon (Some wait) node m kind h = ((let short : wait < 2 ^ 31 = h in omega arith), tt)
 

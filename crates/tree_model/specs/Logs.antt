@@ -75,8 +75,8 @@ NoneIsDue moment (m ∷ marks) = moment < m.moment
 abbrev pub ComesNext : Begun → Event → ℕ → Type 0
 ComesNext b (event.Reply node attempt code text) moment = NoneIsDue moment b.waiting
 ComesNext b (event.Lost node attempt code) moment = NoneIsDue moment b.waiting
-ComesNext b (event.Backup node) moment = IsFirst (record { moment = moment; node = node; kind = backup }) b.waiting
-ComesNext b (event.Deadline node) moment = IsFirst (record { moment = moment; node = node; kind = deadline }) b.waiting
+ComesNext b (event.Backup node) moment = IsFirst (record { moment = moment; node = node; backup = backup }) b.waiting
+ComesNext b (event.Deadline node) moment = IsFirst (record { moment = moment; node = node; backup = deadline }) b.waiting
 ComesNext b event.Cancel moment = NoneIsDue moment b.waiting
 
 -- each of these events comes next when the ones before it were taken

@@ -1,8 +1,8 @@
 -- The marks of a call that are waiting, and the order in which they are taken between the call's events. This project's own choice.
-use Rattle.std.specs.Prelude.{ℕ, zero, suc, ◌+◌, ◌*◌, Bool, ◌==◌, ◌&&◌, ◌||◌, nat_lt, nat_le, max, length, List, [], ◌∷◌, Option, None, Some, is_some, if◌then◌else◌}
+use Rattle.std.specs.Prelude.{ℕ, zero, suc, ◌+◌, ◌*◌, Bool, true, false, ◌==◌, ◌&&◌, ◌||◌, nat_lt, nat_le, max, length, List, [], ◌∷◌, Option, None, Some, is_some, if◌then◌else◌}
 use Rattle.rpc_model.specs.declared.event.Event.{Event}
 use Rattle.rpc_model.specs.declared.event.Event.TheVariants as event
-use Rattle.rpc_model.specs.Machine.{Mark, MarkKind, deadline, backup}
+use Rattle.rpc_model.specs.Machine.{Mark}
 use Rattle.tree_model.specs.declared.kinds.MapKind.{MapKind}
 use Rattle.tree_model.specs.declared.kinds.MergeKind.{MergeKind}
 use Rattle.tree_model.specs.Kinds.{script_kinds}
@@ -20,11 +20,11 @@ pub record Begun : Type 0 where
 
 -- at one moment the marks are ordered by node, and a deadline stands before a backup request of its node
 abbrev pub rank : Mark → ℕ
-rank mark = kind_rank mark.node mark.kind
+rank mark = kind_rank mark.node mark.backup
   where
-    kind_rank : ℕ → MarkKind → ℕ
-    kind_rank node deadline = 2 * node
-    kind_rank node backup = 2 * node + 1
+    kind_rank : ℕ → Bool → ℕ
+    kind_rank node false = 2 * node
+    kind_rank node true = 2 * node + 1
 
 abbrev pub is_before : Mark → Mark → Bool
 is_before a b = nat_lt a.moment b.moment || (a.moment == b.moment && nat_lt (rank a) (rank b))
@@ -55,13 +55,13 @@ abbrev pub least_mark : List Mark → Option (Mark × List Mark)
 least_mark [] = None
 least_mark (mark ∷ marks) = Some (mark, marks)
 
-abbrev pub mark_event : ℕ → MarkKind → Event
-mark_event node deadline = event.Deadline node
-mark_event node backup = event.Backup node
+abbrev pub mark_event : ℕ → Bool → Event
+mark_event node false = event.Deadline node
+mark_event node true = event.Backup node
 
 -- a mark is taken at its own moment
 abbrev pub take_mark : Begun → Mark → List Mark → Begun
-take_mark b mark others = apply (record b { waiting = others }) (mark_event mark.node mark.kind) mark.moment
+take_mark b mark others = apply (record b { waiting = others }) (mark_event mark.node mark.backup) mark.moment
 
 module _ {M G : Type 0} where
   -- the nodes that weren't started
