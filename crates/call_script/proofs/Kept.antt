@@ -11,13 +11,18 @@ use Rattle.std.proofs.lemmas.List.Elements.{All-nil, All-push}
 use Rattle.std.proofs.lemmas.List.Sums.{sum_by_push, sum_by-cons}
 use Rattle.std.proofs.lemmas.Map.Keys.{IsDistinct-push}
 use Rattle.rpc_model.specs.declared.chan.Chan.{Chan}
+use Rattle.rpc_model.specs.declared.chan.Chan.TheVariants as chan
+use Rattle.rpc_model.specs.declared.kinds.MapKind.{MapKind}
+use Rattle.rpc_model.specs.declared.kinds.MergeKind.{MergeKind}
 use Rattle.rpc_model.specs.declared.script.Serve.{Serve}
 use Rattle.rpc_model.specs.declared.script.Act.{Act}
 use Rattle.rpc_model.specs.declared.script.Act.TheVariants.{Call, Cancel, Reply, Lose, Tick, Join}
 use Rattle.rpc_model.specs.declared.limits.TheConstants.{ATTEMPT_WEIGHT}
 use Rattle.rpc_model.specs.Plan.{Plan, chan_plan, plan}
 use Rattle.rpc_model.specs.Before.{call_of, calls_of, chan_of, is_event, event_count, attempts_of, call_weight, weight_of, total_weight}
-use Rattle.rpc_model.specs.Fits.{IsMoment, IsAct, IsChan, IsServe, begins, called}
+use Rattle.rpc_model.specs.Limits.{IsMoment, IsAct, IsServe, begins, called}
+use Rattle.rpc_model.specs.Fits.{IsPlain}
+use Rattle.call_script.proofs.Plain.{same-plan}
 use Rattle.call_script.specs.Within.{IsWithin}
 
 -- The calls that lines begin, after one more line.
@@ -55,27 +60,21 @@ lines_are (Lose at call node attempt code ∷ acts) = rw (sum_by-cons (λ x. con
 lines_are (Tick at ∷ acts) = rw (sum_by-cons (λ x. cond (is_event x) 1 0) (Tick at) acts) (omega (arith, lines_are acts))
 lines_are (Join call ∷ acts) = rw (sum_by-cons (λ x. cond (is_event x) 1 0) (Join call) acts) (omega (arith, lines_are acts))
 
--- One more channel is found behind the others, and changes none of them.
-same-channel : (chans : List Chan) (c : Chan) (i : ℕ) → i < length chans → slice_get (chans ++ c ∷ []) i ≡ slice_get chans i
-same-channel [] c i h = absurd (omega arith)
-same-channel (x ∷ chans) c zero h = refl
-same-channel (x ∷ chans) c (suc i) h = same-channel chans c i (omega arith)
-
-same-weight : (chans : List Chan) (c : Chan) (act : Act) → IsAct (length chans) act → weight_of (chans ++ c ∷ []) act ≡ weight_of chans act
-same-weight chans c (Call at call chan text) fit = ap (λ (o : Option Chan). (length text + ATTEMPT_WEIGHT) * attempts_of (chan_plan o call)) (same-channel chans c chan fit.0)
-same-weight chans c (Cancel at call) fit = refl
-same-weight chans c (Reply at call node attempt code text) fit = refl
-same-weight chans c (Lose at call node attempt code) fit = refl
-same-weight chans c (Tick at) fit = refl
-same-weight chans c (Join call) fit = refl
+same-weight : (servers : ℕ) (chans : List (Chan MapKind MergeKind)) (c : Chan MapKind MergeKind) (act : Act) → All (IsPlain servers) chans → IsAct (length chans) act → weight_of (chans ++ c ∷ []) act ≡ weight_of chans act
+same-weight servers chans c (Call at call chan text) plain fit = ap (λ (o : Option (Plan MapKind MergeKind)). (length text + ATTEMPT_WEIGHT) * attempts_of o) (same-plan servers chans c chan call plain fit.0)
+same-weight servers chans c (Cancel at call) plain fit = refl
+same-weight servers chans c (Reply at call node attempt code text) plain fit = refl
+same-weight servers chans c (Lose at call node attempt code) plain fit = refl
+same-weight servers chans c (Tick at) plain fit = refl
+same-weight servers chans c (Join call) plain fit = refl
 
 -- What the calls weigh hangs on their own channels alone.
-pub same-total : (chans : List Chan) (c : Chan) (acts : List Act) → All (IsAct (length chans)) acts → total_weight (chans ++ c ∷ []) acts ≡ total_weight chans acts
-same-total chans c [] fit = refl
-same-total chans c (act ∷ acts) fit =
+pub same-total : (servers : ℕ) (chans : List (Chan MapKind MergeKind)) (c : Chan MapKind MergeKind) (acts : List Act) → All (IsPlain servers) chans → All (IsAct (length chans)) acts → total_weight (chans ++ c ∷ []) acts ≡ total_weight chans acts
+same-total servers chans c [] plain fit = refl
+same-total servers chans c (act ∷ acts) plain fit =
     sum_by-cons (weight_of (chans ++ c ∷ [])) act acts
-    ∙ ap (λ (n : ℕ). n + total_weight (chans ++ c ∷ []) acts) (same-weight chans c act (fit 0 act (omega arith)))
-    ∙ ap (λ (n : ℕ). weight_of chans act + n) (same-total chans c acts (λ k d h. fit (suc k) d (omega arith)))
+    ∙ ap (λ (n : ℕ). n + total_weight (chans ++ c ∷ []) acts) (same-weight servers chans c act plain (fit 0 act (omega arith)))
+    ∙ ap (λ (n : ℕ). weight_of chans act + n) (same-total servers chans c acts plain (λ k d h. fit (suc k) d (omega arith)))
     ∙ sym (sum_by-cons (weight_of chans) act acts)
 
 -- Before the first line.
@@ -95,11 +94,11 @@ within_nothing = record {
   moments = All-nil IsMoment;
   fit = All-nil (IsAct 0);
   calls_differ = tt;
-  channels = All-nil (IsChan 0);
+  channels = All-nil (IsPlain 0);
   serves_fit = All-nil (IsServe 0);
 }
 
-event-weight : (chans : List Chan) (act : Act) → call_of act ≡ [] → weight_of chans act ≡ 0
+event-weight : (chans : List (Chan MapKind MergeKind)) (act : Act) → call_of act ≡ [] → weight_of chans act ≡ 0
 event-weight chans (Call at call chan text) h = search rules
 event-weight chans (Cancel at call) h = refl
 event-weight chans (Reply at call node attempt code text) h = refl
@@ -125,8 +124,8 @@ later-act chans more (Tick at) h fit = tt
 later-act chans more (Join call) h fit = tt
 
 -- One more channel.
-pub within_channel : (slots : Option ℕ) (names servers : List (List ℕ)) (name : List ℕ) (chans : List Chan) (c : Chan) (serves : List Serve) (acts : List Act) (calls : List (ℕ × ℕ)) (events weight : ℕ)
-    → IsWithin slots names servers chans serves acts calls events weight → length names < 1000 → IsChan (length servers) c
+pub within_channel : (slots : Option ℕ) (names servers : List (List ℕ)) (name : List ℕ) (chans : List (Chan MapKind MergeKind)) (c : Chan MapKind MergeKind) (serves : List Serve) (acts : List Act) (calls : List (ℕ × ℕ)) (events weight : ℕ)
+    → IsWithin slots names servers chans serves acts calls events weight → length names < 1000 → IsPlain (length servers) c
     → IsWithin slots (names ++ name ∷ []) servers (chans ++ c ∷ []) serves acts calls events weight
 within_channel slots names servers name chans c serves acts calls events weight w room channel = record {
   few_slots = w.few_slots;
@@ -138,16 +137,16 @@ within_channel slots names servers name chans c serves acts calls events weight 
   light = w.light;
   known = w.known;
   counted = w.counted;
-  weighed = w.weighed ∙ sym (same-total chans c acts w.fit);
+  weighed = w.weighed ∙ sym (same-total (length servers) chans c acts w.channels w.fit);
   moments = w.moments;
   fit = λ k d h. later-act (length chans) (length (chans ++ c ∷ [])) _ (simp length-append (omega arith)) (w.fit k d h);
   calls_differ = w.calls_differ;
-  channels = All-push (IsChan (length servers)) chans c w.channels channel;
+  channels = All-push (IsPlain (length servers)) chans c w.channels channel;
   serves_fit = w.serves_fit;
 }
 
 -- One more line that begins no call.
-pub within_event : (slots : Option ℕ) (names servers : List (List ℕ)) (chans : List Chan) (serves : List Serve) (acts : List Act) (act : Act) (calls : List (ℕ × ℕ)) (events weight : ℕ)
+pub within_event : (slots : Option ℕ) (names servers : List (List ℕ)) (chans : List (Chan MapKind MergeKind)) (serves : List Serve) (acts : List Act) (act : Act) (calls : List (ℕ × ℕ)) (events weight : ℕ)
     → IsWithin slots names servers chans serves acts calls events weight → events < 400000 → IsMoment act → IsAct (length chans) act → call_of act ≡ []
     → IsWithin slots names servers chans serves (acts ++ act ∷ []) calls (events + 1) weight
 within_event slots names servers chans serves acts act calls events weight w room moment fit event =
@@ -171,7 +170,7 @@ within_event slots names servers chans serves acts act calls events weight w roo
     }
 
 -- One more call.
-pub within_call : (slots : Option ℕ) (names servers : List (List ℕ)) (chans : List Chan) (serves : List Serve) (acts : List Act) (calls : List (ℕ × ℕ)) (at call chan : ℕ) (text : List ℕ) (events weight more : ℕ)
+pub within_call : (slots : Option ℕ) (names servers : List (List ℕ)) (chans : List (Chan MapKind MergeKind)) (serves : List Serve) (acts : List Act) (calls : List (ℕ × ℕ)) (at call chan : ℕ) (text : List ℕ) (events weight more : ℕ)
     → IsWithin slots names servers chans serves acts calls events weight → length calls < 100000 → at < 2 ^ 53 → chan_of acts call ≡ None → chan < length names → length text ≤ 60000
     → more ≡ call_weight chans chan call text → weight + more ≤ 2 ^ 30
     → IsWithin slots names servers chans serves (acts ++ Call at call chan text ∷ []) (calls ++ (call, chan) ∷ []) events (weight + more)

@@ -2,18 +2,21 @@
 use Rattle.std.specs.Prelude.{◌≡◌, ℕ, ◌≤◌, nat_eq, List, All, length, Option, None, Some}
 use Rattle.std.specs.List.{IsDistinct}
 use Rattle.rpc_model.specs.declared.chan.Chan.{Chan}
+use Rattle.rpc_model.specs.declared.kinds.MapKind.{MapKind}
+use Rattle.rpc_model.specs.declared.kinds.MergeKind.{MergeKind}
 use Rattle.rpc_model.specs.declared.script.Serve.{Serve}
 use Rattle.rpc_model.specs.declared.script.Act.{Act}
 use Rattle.rpc_model.specs.declared.limits.TheConstants.{CHANNEL_LIMIT, SERVER_LIMIT, SIM_CALL_LIMIT, EVENT_LIMIT, SIM_WEIGHT_LIMIT, SLOT_LIMIT}
 use Rattle.rpc_model.specs.Before.{calls_of, event_count, total_weight}
-use Rattle.rpc_model.specs.Fits.{IsMoment, IsAct, IsChan, IsServe, called}
+use Rattle.rpc_model.specs.Limits.{IsMoment, IsAct, IsServe, called}
+use Rattle.rpc_model.specs.Fits.{IsPlain}
 
 -- so many calls may be open, where a line says how many
 abbrev pub AreSlots : Option ℕ → Type 0
 AreSlots None = Unit {0}
 AreSlots (Some slots) = (1 ≤ slots) × (slots ≤ SLOT_LIMIT)
 
-pub record IsWithin (slots : Option ℕ) (names servers : List (List ℕ)) (chans : List Chan) (serves : List Serve) (acts : List Act) (calls : List (ℕ × ℕ)) (events weight : ℕ) : Type 0 where
+pub record IsWithin (slots : Option ℕ) (names servers : List (List ℕ)) (chans : List (Chan MapKind MergeKind)) (serves : List Serve) (acts : List Act) (calls : List (ℕ × ℕ)) (events weight : ℕ) : Type 0 where
   pub few_slots : AreSlots slots
   pub few_channels : length names ≤ CHANNEL_LIMIT
   pub named : length names ≡ length chans
@@ -28,5 +31,5 @@ pub record IsWithin (slots : Option ℕ) (names servers : List (List ℕ)) (chan
   pub moments : All IsMoment acts
   pub fit : All (IsAct (length chans)) acts
   pub calls_differ : IsDistinct nat_eq (called acts)
-  pub channels : All (IsChan (length servers)) chans
+  pub channels : All (IsPlain (length servers)) chans
   pub serves_fit : All (IsServe (length servers)) serves

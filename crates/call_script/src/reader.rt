@@ -2,7 +2,7 @@
 
 ghost use Rattle.std.specs.Prelude.{◌≡◌, ℕ, ◌≤◌};
 ghost use Rattle.rpc_model.specs.Before.{nothing};
-ghost use Rattle.rpc_model.specs.Fits.{Fits};
+ghost use Rattle.rpc_model.specs.Fits.{Fits, IsOfPlain};
 ghost use Rattle.rpc_model.specs.Script.{script_of};
 
 mod call_lines;
@@ -13,7 +13,7 @@ mod setting_lines;
 use crate::calls::Calls;
 use crate::names::Names;
 use rpc_base::List;
-use rpc_model::{Act, Chan, DEFAULT_SLOTS, Mode, Script, Serve};
+use rpc_model::{Act, Chan, DEFAULT_SLOTS, MapKind, MergeKind, Mode, Script, Serve};
 use std::alloc::Global;
 use std::marker::Model;
 
@@ -26,7 +26,7 @@ pub(crate) struct Reader {
     slots: Option<u32>,
     names: Names,
     servers: Names,
-    chans: Vec<Chan>,
+    chans: Vec<Chan<MapKind, MergeKind>>,
     serves: Vec<Serve>,
     acts: Vec<Act>,
     calls: Calls,
@@ -70,6 +70,7 @@ impl Reader {
     pub(crate) fn into_script(self) -> Script
         ensures script { result ≡ script_of self }
         ensures fits { Fits result }
+        ensures plain { IsOfPlain result }
     {
         Script {
             mode: self.mode,

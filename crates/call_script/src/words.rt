@@ -5,7 +5,7 @@ ghost use Rattle.std.specs.List.{list_all};
 ghost use Rattle.std.specs.Option.{option_map};
 ghost use Rattle.std.specs.Result.{result_map_both};
 ghost use Rattle.rpc_model.specs.Words as spec;
-ghost use Rattle.rpc_model.specs.Fits.{IsSpelled, IsWait};
+ghost use Rattle.rpc_model.specs.Limits.{IsSpelled, IsWait};
 
 use rpc_model::{CODE_LIMIT, Cause, DELAY_LIMIT, Direction, NAME_LIMIT, TEXT_LIMIT, WAIT_LIMIT};
 

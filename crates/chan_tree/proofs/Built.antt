@@ -3,13 +3,13 @@ use Rattle.std.proofs.Common.{◌≡◌, ℕ, zero, suc, ◌+◌, ◌-◌, ◌%�
 use Rattle.std.proofs.Math.Seq.{drop-cons}
 use Rattle.std.proofs.lemmas.List.{append_assoc}
 use Rattle.rpc_model.specs.declared.chan.LeafChan.{LeafChan}
-use Rattle.tree_model.specs.declared.chan.Chan.{Chan}
-use Rattle.tree_model.specs.declared.chan.Chan.TheVariants as chan
-use Rattle.tree_model.specs.declared.chan.ParChan.{ParChan}
-use Rattle.tree_model.specs.declared.chan.SelChan.{SelChan}
-use Rattle.tree_model.specs.declared.chan.PartChan.{PartChan}
-use Rattle.tree_model.specs.declared.chan.Sub.{Sub}
-use Rattle.tree_model.specs.Plan.{Plan, Plans, leaf_plan, par_plan, sel_plan, and_plan, plans_of, par_over, sel_over, rule_of, subs_of, part_rule, part_plans, tries, copies, chan_plan, plan}
+use Rattle.rpc_model.specs.declared.chan.Chan.{Chan}
+use Rattle.rpc_model.specs.declared.chan.Chan.TheVariants as chan
+use Rattle.rpc_model.specs.declared.chan.ParChan.{ParChan}
+use Rattle.rpc_model.specs.declared.chan.SelChan.{SelChan}
+use Rattle.rpc_model.specs.declared.chan.PartChan.{PartChan}
+use Rattle.rpc_model.specs.declared.chan.Sub.{Sub}
+use Rattle.rpc_model.specs.Plan.{Plan, Plans, leaf_plan, par_plan, sel_plan, and_plan, plans_of, par_over, sel_over, rule_of, subs_of, part_rule, part_plans, tries, copies, chan_plan, plan}
 use Rattle.chan_tree.specs.Sound.{AreBefore, IsSound, AreSound}
 use Rattle.chan_tree.specs.Measures.{numbers_of}
 use Rattle.chan_tree.specs.Shown.{plans_of as plans_shown, with_plans, IsPlanOf, ArePlansOf, AreLeft}

@@ -1,10 +1,10 @@
 -- What is defined on channels by how deep they may nest hangs on the subs alone.
 use Rattle.std.proofs.Common.{◌≡◌, ℕ, zero, suc, ◌+◌, ◌%◌, ◌<◌, ◌≤◌, List, [], ◌∷◌, length, Option, Some, None, arith, refl, ap, sym, ◌∙◌, subst, slice_get, slice_index}
-use Rattle.tree_model.specs.declared.chan.Chan.{Chan}
-use Rattle.tree_model.specs.declared.chan.Chan.TheVariants as chan
-use Rattle.tree_model.specs.declared.chan.SelChan.{SelChan}
-use Rattle.tree_model.specs.Plan.{Plan, and_plan, plans_of, par_over, sel_over, rule_of, subs_of, tries, tries_from, chan_plan, plan_within, plan}
-use Rattle.tree_model.specs.Faults.{deepest, first_missing, or_later, chan_depth, depth_within, depth, chan_missing, missing_within, missing_part}
+use Rattle.rpc_model.specs.declared.chan.Chan.{Chan}
+use Rattle.rpc_model.specs.declared.chan.Chan.TheVariants as chan
+use Rattle.rpc_model.specs.declared.chan.SelChan.{SelChan}
+use Rattle.rpc_model.specs.Plan.{Plan, and_plan, plans_of, par_over, sel_over, rule_of, subs_of, tries, tries_from, chan_plan, plan_within, plan}
+use Rattle.rpc_model.specs.Faults.{deepest, first_missing, or_later, chan_depth, depth_within, depth, chan_missing, missing_within, missing_part}
 use Rattle.chan_tree.specs.Sound.{AreBefore, IsSound, AreSound}
 use Rattle.chan_tree.specs.Counting.{total, chan_width, width_within, width_of}
 

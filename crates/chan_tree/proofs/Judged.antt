@@ -1,11 +1,11 @@
 -- A channel's measure, and what is judged by it.
 use Rattle.std.proofs.Common.{◌≡◌, ℕ, zero, suc, ◌+◌, ◌<◌, ◌≤◌, min, ◌⊎◌, inl, inr, Bool, true, false, nat_lt, List, [], ◌∷◌, ◌++◌, length, slice_get, Option, Some, None, arith, refl, ap, sym, ◌∙◌, subst, length-append}
 use Rattle.std.proofs.lemmas.Bool.Decides.{nat_tests}
-use Rattle.tree_model.specs.declared.chan.Chan.{Chan}
-use Rattle.tree_model.specs.declared.chan.Chan.TheVariants as chan
-use Rattle.tree_model.specs.Plan.{Plan, plan, subs_of, tries}
-use Rattle.tree_model.specs.Versions.{width}
-use Rattle.tree_model.specs.Faults.{deepest, chan_depth, depth, chan_missing, missing_part}
+use Rattle.rpc_model.specs.declared.chan.Chan.{Chan}
+use Rattle.rpc_model.specs.declared.chan.Chan.TheVariants as chan
+use Rattle.rpc_model.specs.Plan.{Plan, plan, subs_of, tries}
+use Rattle.rpc_model.specs.Versions.{width}
+use Rattle.rpc_model.specs.Faults.{deepest, chan_depth, depth, chan_missing, missing_part}
 use Rattle.chan_tree.specs.declared.measuring.Measure.{Measure}
 use Rattle.chan_tree.specs.declared.planning.PlanFault.TheVariants.{TooWide}
 use Rattle.chan_tree.specs.Sound.{AreSound}

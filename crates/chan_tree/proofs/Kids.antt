@@ -1,6 +1,6 @@
 -- Plans that are built one after another.
 use Rattle.std.proofs.Common.{◌≡◌, List, [], ◌∷◌, ◌++◌, Option, Some, refl, ap}
-use Rattle.tree_model.specs.Plan.{Plan, Plans, last_plan, plan_then, and_plan}
+use Rattle.rpc_model.specs.Plan.{Plan, Plans, last_plan, plan_then, and_plan}
 use Rattle.chan_tree.specs.Shown.{plans_of, with_plans, append_plans}
 
 module _ {M G : Type 0} where

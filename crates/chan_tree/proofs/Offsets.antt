@@ -3,11 +3,11 @@ use Rattle.std.proofs.Common.{◌≡◌, ℕ, zero, suc, ◌+◌, ◌-◌, ◌<�
 use Rattle.std.specs.List.{IsDistinct}
 use Rattle.std.specs.Option.{option_map}
 use Rattle.std.proofs.lemmas.Option.{slice_get_past}
-use Rattle.tree_model.specs.declared.meaning.Meaning.{Meaning}
-use Rattle.tree_model.specs.declared.meaning.Meaning.TheVariants.{Node, Attempt}
-use Rattle.tree_model.specs.Plan.{Plan}
-use Rattle.tree_model.specs.Versions.{nodes, node_versions, attempt_versions, is_same, versions, width, offset_of, meaning_of}
-use Rattle.tree_model.proofs.Versions.{position-cons, offset-meaning, attempts-distinct, width-is}
+use Rattle.rpc_model.specs.declared.meaning.Meaning.{Meaning}
+use Rattle.rpc_model.specs.declared.meaning.Meaning.TheVariants.{Node, Attempt}
+use Rattle.rpc_model.specs.Plan.{Plan}
+use Rattle.rpc_model.specs.Versions.{nodes, node_versions, attempt_versions, is_same, versions, width, offset_of, meaning_of}
+use Rattle.rpc_model.proofs.Versions.{position-cons, offset-meaning, attempts-distinct, width-is}
 use Rattle.chan_tree.specs.Table.{attempts_by, leaf_nodes, leaf_counts, total, IsRising}
 use Rattle.chan_tree.proofs.Tables.{total-counts, attempts-are, leaves-rise, rises}
 

@@ -3,12 +3,12 @@ use Rattle.std.proofs.Common.{◌≡◌, ℕ, zero, suc, ◌+◌, ◌-◌, ◌<�
 use Rattle.std.proofs.lemmas.Bool.Decides.{nat_tests}
 use Rattle.std.specs.List.{IsDistinct}
 use Rattle.std.proofs.lemmas.List.{append_assoc, append-nil}
-use Rattle.tree_model.specs.declared.meaning.Meaning.{Meaning}
-use Rattle.tree_model.specs.declared.meaning.Meaning.TheVariants.{Attempt}
-use Rattle.tree_model.specs.Plan.{Plan, leaf_plan, par_plan, sel_plan, Plans, last_plan, plan_then}
-use Rattle.tree_model.specs.Versions.{nodes, nodes_of, possible_attempts, possible_attempts_of, leaf_versions, attempt_versions, attempt_versions_of, is_same}
+use Rattle.rpc_model.specs.declared.meaning.Meaning.{Meaning}
+use Rattle.rpc_model.specs.declared.meaning.Meaning.TheVariants.{Attempt}
+use Rattle.rpc_model.specs.Plan.{Plan, leaf_plan, par_plan, sel_plan, Plans, last_plan, plan_then}
+use Rattle.rpc_model.specs.Versions.{nodes, nodes_of, possible_attempts, possible_attempts_of, leaf_versions, attempt_versions, attempt_versions_of, is_same}
 use Rattle.rpc_model.proofs.First.{position_some}
-use Rattle.tree_model.proofs.Versions.{length-leaf as count-versions, Apart, apart-append, leaf-apart-past, position-of, position-none}
+use Rattle.rpc_model.proofs.Versions.{length-leaf as count-versions, Apart, apart-append, leaf-apart-past, position-of, position-none}
 use Rattle.chan_tree.specs.Table.{firsts_from, attempts_by, leaf_nodes, leaf_nodes_of, leaf_counts, leaf_counts_of, total, AreSome, IsRising, IsLastUpTo}
 
 total-append : (xs ys : List ℕ) → total (xs ++ ys) ≡ total xs + total ys

@@ -1,8 +1,8 @@
 -- One try or one part more.
 use Rattle.std.proofs.Common.{◌≡◌, ℕ, suc, ◌+◌, ◌-◌, ◌%◌, ◌<◌, ◌≤◌, List, [], ◌∷◌, length, None, arith, ap, slice_index}
-use Rattle.tree_model.specs.declared.chan.PartChan.{PartChan}
-use Rattle.tree_model.specs.Plan.{leaf_plan, last_plan, plan_then, servers_of, tries_from, part_leaf, part_plans}
-use Rattle.tree_model.specs.Faults.{or_missing, missing_from}
+use Rattle.rpc_model.specs.declared.chan.PartChan.{PartChan}
+use Rattle.rpc_model.specs.Plan.{leaf_plan, last_plan, plan_then, servers_of, tries_from, part_leaf, part_plans}
+use Rattle.rpc_model.specs.Faults.{or_missing, missing_from}
 
 left : (at count : ℕ) → at < count → count - at ≡ suc (count - (at + 1))
 left at count less = omega (arith, less)

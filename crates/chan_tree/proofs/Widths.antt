@@ -1,11 +1,11 @@
 -- A channel of the list has a plan, and its width is that which is counted.
 use Rattle.std.proofs.Common.{◌≡◌, ℕ, zero, suc, ◌+◌, ◌*◌, ◌<◌, List, [], ◌∷◌, length, Option, Some, None, arith, refl, ap, sym, ◌∙◌, subst, slice_get}
-use Rattle.tree_model.specs.declared.chan.Chan.{Chan}
-use Rattle.tree_model.specs.declared.chan.Chan.TheVariants as chan
-use Rattle.tree_model.specs.declared.chan.PartChan.{PartChan}
-use Rattle.tree_model.specs.Plan.{Rule, Plan, Plans, and_plan, plans_of, par_over, sel_over, rule_of, subs_of, tries, part_plans, chan_plan, plan}
-use Rattle.tree_model.specs.Versions.{nodes, nodes_of, possible_attempts, possible_attempts_of, width}
-use Rattle.tree_model.proofs.Versions.{width-is}
+use Rattle.rpc_model.specs.declared.chan.Chan.{Chan}
+use Rattle.rpc_model.specs.declared.chan.Chan.TheVariants as chan
+use Rattle.rpc_model.specs.declared.chan.PartChan.{PartChan}
+use Rattle.rpc_model.specs.Plan.{Rule, Plan, Plans, and_plan, plans_of, par_over, sel_over, rule_of, subs_of, tries, part_plans, chan_plan, plan}
+use Rattle.rpc_model.specs.Versions.{nodes, nodes_of, possible_attempts, possible_attempts_of, width}
+use Rattle.rpc_model.proofs.Versions.{width-is}
 use Rattle.chan_tree.specs.Sound.{AreBefore, IsSound, AreSound}
 use Rattle.chan_tree.specs.Counting.{total, chan_width, width_of}
 use Rattle.chan_tree.proofs.Fuel.{SoundIf, sound-at, sel-before, plan-is, width_of-is}

@@ -1,9 +1,9 @@
 -- Why a channel is refused a plan. This project's own choice.
 use Rattle.std.specs.Prelude.{◌≡◌, ℕ, ◌<◌, ◌≤◌, List, None, Some}
-use Rattle.tree_model.specs.declared.chan.Chan.{Chan}
-use Rattle.tree_model.specs.Plan.{Plan, plan}
-use Rattle.tree_model.specs.Versions.{width}
-use Rattle.tree_model.specs.Faults.{depth, missing_part}
+use Rattle.rpc_model.specs.declared.chan.Chan.{Chan}
+use Rattle.rpc_model.specs.Plan.{Plan, plan}
+use Rattle.rpc_model.specs.Versions.{width}
+use Rattle.rpc_model.specs.Faults.{depth, missing_part}
 use Rattle.chan_tree.specs.declared.planning.PlanFault.{PlanFault}
 use Rattle.chan_tree.specs.declared.planning.PlanFault.TheVariants.{TooDeep, MissingPart, TooWide, Memory}
 

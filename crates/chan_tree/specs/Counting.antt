@@ -1,8 +1,8 @@
 -- How wide the plan of a channel is, counted from the widths of its subs.
 use Rattle.std.specs.Prelude.{ℕ, zero, suc, ◌+◌, ◌*◌, List, [], ◌∷◌, Option, None, Some, slice_get}
-use Rattle.tree_model.specs.declared.chan.Chan.{Chan}
-use Rattle.tree_model.specs.declared.chan.Chan.TheVariants as chan
-use Rattle.tree_model.specs.Plan.{tries, subs_of}
+use Rattle.rpc_model.specs.declared.chan.Chan.{Chan}
+use Rattle.rpc_model.specs.declared.chan.Chan.TheVariants as chan
+use Rattle.rpc_model.specs.Plan.{tries, subs_of}
 
 -- the widths of the channels of these numbers together
 abbrev pub total : (ℕ → ℕ) → List ℕ → ℕ

@@ -5,8 +5,8 @@ use denote.Param.Weighed.{most}
 use Rattle.chan_tree.specs.declared.tree.PlanNode.{PlanNode}
 use Rattle.chan_tree.specs.declared.tree.PlanNode.TheVariants.{Leaf, Par, Sel}
 use Rattle.chan_tree.specs.declared.tree.PlanTree.TheDeep.{deep-PlanNode}
-use Rattle.tree_model.specs.Plan as spec
-use Rattle.tree_model.specs.Versions.{nodes, nodes_of}
+use Rattle.rpc_model.specs.Plan as spec
+use Rattle.rpc_model.specs.Versions.{nodes, nodes_of}
 use Rattle.chan_tree.specs.Shown.{plans_of, plan_of}
 
 module _ {M G : Type 0} where

@@ -1,8 +1,8 @@
 -- What a list of measures says of the channel of a number.
 use Rattle.std.specs.Prelude.{◌≡◌, ℕ, zero, suc, ◌++◌, min, Bool, true, false, List, [], ◌∷◌, map, Option, None, Some, slice_get}
-use Rattle.tree_model.specs.declared.chan.Chan.{Chan}
-use Rattle.tree_model.specs.declared.chan.Sub.{Sub}
-use Rattle.tree_model.specs.Faults.{depth, missing_part}
+use Rattle.rpc_model.specs.declared.chan.Chan.{Chan}
+use Rattle.rpc_model.specs.declared.chan.Sub.{Sub}
+use Rattle.rpc_model.specs.Faults.{depth, missing_part}
 use Rattle.chan_tree.specs.Counting.{width_of}
 use Rattle.chan_tree.specs.declared.measuring.Measure.{Measure}
 

@@ -1,7 +1,7 @@
 -- The plan that the code's nodes stand for.
 use Rattle.std.specs.Prelude.{◌≡◌, ℕ, List, [], ◌∷◌, Option, Some}
-use Rattle.tree_model.specs.declared.chan.Chan.{Chan}
-use Rattle.tree_model.specs.Plan as spec
+use Rattle.rpc_model.specs.declared.chan.Chan.{Chan}
+use Rattle.rpc_model.specs.Plan as spec
 use Rattle.chan_tree.specs.declared.tree.PlanNode.{PlanNode}
 use Rattle.chan_tree.specs.declared.tree.PlanNode.TheVariants as node
 use Rattle.chan_tree.specs.declared.tree.Rule.{Rule}

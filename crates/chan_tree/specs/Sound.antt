@@ -1,9 +1,9 @@
 -- The lists of channels that have plans: each channel names only channels before it. This project's own choice.
 use Rattle.std.specs.Prelude.{ℕ, suc, ◌<◌, ◌≤◌, List, [], ◌∷◌, length}
 use Rattle.std.specs.List.{AllByRecursion}
-use Rattle.tree_model.specs.declared.chan.Chan.{Chan}
-use Rattle.tree_model.specs.declared.chan.Chan.TheVariants as chan
-use Rattle.tree_model.specs.Plan.{subs_of}
+use Rattle.rpc_model.specs.declared.chan.Chan.{Chan}
+use Rattle.rpc_model.specs.declared.chan.Chan.TheVariants as chan
+use Rattle.rpc_model.specs.Plan.{subs_of}
 
 -- these are numbers of earlier channels
 abbrev pub AreBefore : ℕ → List ℕ → Type 0

@@ -1,8 +1,8 @@
 -- The leaves of a plan as three lists: their numbers, the places of their first attempts, and how many attempts each may issue.
 use Rattle.std.specs.Prelude.{ℕ, ◌+◌, ◌<◌, ◌≤◌, List, [], ◌∷◌, ◌++◌, length, get_or}
-use Rattle.tree_model.specs.declared.meaning.Meaning.{Meaning}
-use Rattle.tree_model.specs.Plan.{Plan, leaf_plan, par_plan, sel_plan, Plans, last_plan, plan_then}
-use Rattle.tree_model.specs.Versions.{nodes, leaf_versions}
+use Rattle.rpc_model.specs.declared.meaning.Meaning.{Meaning}
+use Rattle.rpc_model.specs.Plan.{Plan, leaf_plan, par_plan, sel_plan, Plans, last_plan, plan_then}
+use Rattle.rpc_model.specs.Versions.{nodes, leaf_versions}
 
 -- the places of the first attempts, where the first leaf's is this
 abbrev pub firsts_from : ℕ → List ℕ → List ℕ

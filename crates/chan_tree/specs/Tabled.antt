@@ -1,6 +1,6 @@
 -- What a plan keeps beside its tree: counts and the table of its leaves.
 use Rattle.std.specs.Prelude.{◌≡◌, ◌≤◌}
-use Rattle.tree_model.specs.Versions.{nodes, width}
+use Rattle.rpc_model.specs.Versions.{nodes, width}
 use Rattle.chan_tree.specs.declared.plans.Plan.TheInside.{Inside}
 use Rattle.chan_tree.specs.Table.{firsts_from, leaf_nodes, leaf_counts}
 

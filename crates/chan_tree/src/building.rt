@@ -1,8 +1,8 @@
 //! Plans as trees, built from a list of channels.
 
 ghost use Rattle.std.specs.Prelude.{◌≡◌, ℕ, ◌+◌, ◌<◌, ◌≤◌, ◌++◌, List, length, map, Some, IfOk, OnOk};
-ghost use Rattle.tree_model.specs.Plan as spec;
-ghost use Rattle.tree_model.specs.Plan.{subs_of, tries, copies, servers_of};
+ghost use Rattle.rpc_model.specs.Plan as spec;
+ghost use Rattle.rpc_model.specs.Plan.{subs_of, tries, copies, servers_of};
 ghost use Rattle.chan_tree.specs.Sound.{AreBefore, IsSound, AreSound};
 ghost use Rattle.chan_tree.specs.Measures.{numbers_of};
 ghost use Rattle.chan_tree.specs.Shown.{append_plans, rule_of as rule_shown, IsPlanOf, ArePlansOf};
@@ -12,7 +12,7 @@ use crate::tree::{PlanNode, PlanTree, Rule};
 use rpc_base::{List, NoMemory};
 use rpc_model::LeafChan;
 use std::alloc::Global;
-use tree_model::{Chan, ParChan, PartChan, SelChan, Sub, Tag};
+use rpc_model::{Chan, ParChan, PartChan, SelChan, Sub, Tag};
 
 /// The plan of the channel of this number, as a tree.
 #[cycle(build)]

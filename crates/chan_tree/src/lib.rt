@@ -15,7 +15,7 @@ pub use planning::{PlanFault, plan};
 pub use plans::Plan;
 pub use sound::are_sound;
 pub use tree::{PlanNode, PlanTree, Rule};
-pub use tree_model::{Chan, ParChan, PartChan, SelChan, Sub, Tag};
+pub use rpc_model::{Chan, ParChan, PartChan, SelChan, Sub, Tag};
 
 #[cfg(test)]
 mod tests;

@@ -1,13 +1,13 @@
 //! What is known of a channel before its plan is built.
 
 ghost use Rattle.std.specs.Prelude.{◌≡◌, ℕ, ◌+◌, ◌*◌, ◌<◌, ◌≤◌, min, map, length, Option, None, Some, is_some, IfOk};
-ghost use Rattle.tree_model.specs.Plan.{servers_of, tries, tries_from, subs_of};
-ghost use Rattle.tree_model.specs.Faults as faults;
+ghost use Rattle.rpc_model.specs.Plan.{servers_of, tries, tries_from, subs_of};
+ghost use Rattle.rpc_model.specs.Faults as faults;
 ghost use Rattle.chan_tree.specs.Counting.{total, chan_width};
 ghost use Rattle.chan_tree.specs.Sound.{IsSound};
 ghost use Rattle.chan_tree.specs.Measures.{depth_in, missing_in, width_in, numbers_of};
 
-use tree_model::{Chan, PartChan, SelChan, Sub, Tag};
+use rpc_model::{Chan, PartChan, SelChan, Sub, Tag};
 
 /// The greatest depth that is counted: one more than a channel may have.
 pub const DEPTH_END: u32 = 9;

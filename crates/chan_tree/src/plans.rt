@@ -1,13 +1,13 @@
 ghost use Rattle.std.specs.Prelude.{◌≡◌, ℕ, ◌<◌, ◌≤◌, Option, None, Some, IfOk};
-ghost use Rattle.tree_model.specs.Versions as versions;
-ghost use Rattle.tree_model.specs.declared.meaning.Meaning.TheVariants as meaning;
+ghost use Rattle.rpc_model.specs.Versions as versions;
+ghost use Rattle.rpc_model.specs.declared.meaning.Meaning.TheVariants as meaning;
 
 use crate::table::{Table, add_tree, attempt_at, place_of};
 use crate::tree::PlanTree;
 use rpc_base::NoMemory;
 use std::alloc::Global;
 use std::marker::Model;
-use tree_model::Meaning;
+use rpc_model::Meaning;
 
 /// The plan of a call. Its range of ids has one version for each node and one for each attempt that a leaf may issue.
 #[derive(Drop)]
@@ -21,7 +21,7 @@ pub struct Plan<M, G> {
 }
 
 impl<M, G> Model for Plan<M, G> {
-    ghost use Rattle.tree_model.specs.Plan as spec;
+    ghost use Rattle.rpc_model.specs.Plan as spec;
 
     ghost Value = { spec.Plan M G };
 

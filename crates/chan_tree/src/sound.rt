@@ -2,7 +2,7 @@ ghost use Rattle.std.specs.Prelude.{◌≡◌, ◌<◌, ◌↔◌, IsTrue, lengt
 ghost use Rattle.std.specs.List.{AllByRecursion};
 ghost use Rattle.chan_tree.specs.Sound.{AreBefore, AreSound, IsSound};
 
-use tree_model::{Chan, Sub};
+use rpc_model::{Chan, Sub};
 
 /// Whether each channel names only channels before it, each plain one has a server, and each selective one a sub: what
 /// `plan` asks of a list of fewer than 2^32 channels.

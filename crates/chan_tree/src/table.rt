@@ -1,7 +1,7 @@
 //! The leaves of a plan in a table, by which offsets are found without a list of versions.
 
 ghost use Rattle.std.specs.Prelude.{◌≡◌, ℕ, ◌+◌, ◌≤◌, ◌++◌, OnOk};
-ghost use Rattle.tree_model.specs.Versions as versions;
+ghost use Rattle.rpc_model.specs.Versions as versions;
 ghost use Rattle.chan_tree.specs.Table as table;
 ghost use Rattle.chan_tree.specs.Shown.{plans_of};
 
@@ -78,7 +78,7 @@ fn add_trees<M, G>(trees: &[PlanTree<M, G>], to: &mut Table) -> Result<(), NoMem
 
 ghost use Rattle.std.specs.Prelude.{◌<◌, length, position, slice_get, Option, None, Some};
 ghost use Rattle.std.specs.List.{IsDistinct};
-ghost use Rattle.tree_model.specs.declared.meaning.Meaning.TheVariants.{Attempt};
+ghost use Rattle.rpc_model.specs.declared.meaning.Meaning.TheVariants.{Attempt};
 
 use crate::places::last_up_to;
 

@@ -4,7 +4,7 @@ use rpc_model::LeafChan;
 use std::alloc::{AllocError, Global};
 use std::process::Abort;
 use std::test::Fail;
-use tree_model::{MapKind, Meaning, MergeKind};
+use rpc_model::{MapKind, Meaning, MergeKind};
 
 type Kinds = Chan<MapKind, MergeKind>;
 

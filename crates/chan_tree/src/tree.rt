@@ -37,8 +37,8 @@ pub struct Rule<M, G> {
 }
 
 impl<M, G> Model for PlanTree<M, G> {
-    ghost use Rattle.tree_model.specs.Plan as spec;
-    ghost use Rattle.tree_model.specs.Versions.{nodes};
+    ghost use Rattle.rpc_model.specs.Plan as spec;
+    ghost use Rattle.rpc_model.specs.Versions.{nodes};
 
     ghost Value = { spec.Plan M G };
 

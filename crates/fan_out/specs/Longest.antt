@@ -1,7 +1,7 @@
 -- A merger of one's own, which a test has: the longer text, or the earlier of two that are as long.
 use Rattle.std.specs.Prelude.{ℕ, List, length, nat_le, Option, None, Some, if◌then◌else◌}
-use Rattle.tree_model.specs.declared.merger.Merged.{Merged as MergedTo}
-use Rattle.tree_model.specs.declared.merger.Merged.TheVariants.{Merged}
+use Rattle.rpc_model.specs.declared.merger.Merged.{Merged as MergedTo}
+use Rattle.rpc_model.specs.declared.merger.Merged.TheVariants.{Merged}
 
 abbrev pub longer : Option (List ℕ) → List ℕ → MergedTo
 longer None part = Merged part

@@ -1,9 +1,9 @@
 ghost use Rattle.std.specs.Prelude.{◌≡◌, ◌^◌, ◌<◌, IfOk, length};
-ghost use Rattle.tree_model.specs.Parallel as spec;
+ghost use Rattle.rpc_model.specs.Parallel as spec;
 
 use rpc_base::NoMemory;
 use std::alloc::Global;
-use tree_model::{Mapped, Mapper};
+use rpc_model::{Mapped, Mapper};
 
 /// What the mappers of a parallel call ask of its subs, by rising index.
 pub fn ask_all<M: Mapper>(

@@ -9,7 +9,7 @@ mod folding;
 
 pub use asking::ask_all;
 pub use folding::fold_parts;
-pub use tree_model::{MapKind, Mapped, Mapper, MergeKind, Merged, Merger, Part, Verdict};
+pub use rpc_model::{MapKind, Mapped, Mapper, MergeKind, Merged, Merger, Part, Verdict};
 
 #[cfg(test)]
 mod tests;

@@ -1,7 +1,27 @@
 pub mod First
-pub mod MomentsStay
-pub mod Runs
-pub mod Once
+pub mod Issues
+pub mod LeafRuns
 pub mod Attempts
+mod Rows
+mod SingleCalls
+mod Digits
+pub mod Few
+mod Leaves
+pub mod Soon
+pub mod Sizes
+mod Sends
+mod Requests
+mod Paths
+mod Parallels
+pub mod Versions
+mod Even
+mod Ended
+mod Replies
+mod Earned
+mod Completions
 pub mod Early
-pub mod Weaves
+pub mod Once
+mod Logs
+mod Heard
+pub mod MomentsStay
+mod Runs

@@ -1,160 +1,253 @@
--- What a step of the plain machine keeps, and so every run of it.
-use Rattle.std.proofs.Common.{◌≡◌, ℕ, suc, ◌+◌, ◌≤◌, ◌⊎◌, inl, inr, Bool, true, false, cond, ◌&&◌, ◌==◌, not, nat_le, nat_lt, List, [], ◌∷◌, ◌++◌, fold, Some, None, is_none, arith, refl, ap, sym, ◌∙◌}
+-- The laws of every run, from the lemmas on each.
+use Rattle.std.proofs.Common.{◌≡◌, ℕ, zero, suc, ◌+◌, ◌<◌, ◌≤◌, ◌⊎◌, inl, inr, Bool, true, false, cond, ◌==◌, ◌&&◌, nat_lt, List, [], ◌∷◌, ◌++◌, length, count_by, Option, Some, None, arith, refl, ap, sym, ◌∙◌}
 use Rattle.std.proofs.lemmas.Bool.Decides.{nat_tests}
-use Rattle.std.proofs.lemmas.List.{append-nil}
-use Rattle.std.proofs.lemmas.List.Sums.{fold-append}
+use Rattle.std.proofs.lemmas.List.Recursion.{is_count_by}
 use Rattle.rpc_model.specs.declared.chan.LeafChan.{LeafChan}
-use Rattle.rpc_model.specs.declared.event.End.{End}
-use Rattle.rpc_model.specs.declared.event.End.TheVariants.{Good, Bad}
-use Rattle.rpc_model.specs.declared.event.Event.{Event}
-use Rattle.rpc_model.specs.declared.event.Event.TheVariants.{Reply, Lost, Backup, Deadline, Cancel}
-use Rattle.rpc_model.specs.declared.codes.TheConstants.{ECANCELED}
-use Rattle.rpc_model.specs.Codes.{retriable}
-use Rattle.rpc_model.specs.Laws.{first_sends}
-use Rattle.rpc_model.specs.Leaf.{Leaf, leaf_step, is_live, is_attempt, may_issue, failed, answered, ended, retried, backed}
-use Rattle.rpc_model.specs.Plan.{Plan, leaf_plan}
-use Rattle.rpc_model.specs.Machine.{State, leaf_state, Run, Send, end_of, attempts, is_at, leaf_run, quiet, server_of, sent, step_at, step, and_then, start, machine}
+use Rattle.rpc_model.specs.Leaf.{Leaf, leaf_step}
+use Rattle.rpc_model.specs.Effects.{Send, server_of}
+use Rattle.rpc_model.proofs.Issues.{IssuesFew, leaf_step-issues}
+use Rattle.rpc_model.specs.Kinds.{Kinds}
+use Rattle.rpc_model.specs.Plan.{Plan, sel_plan, Plans, last_plan, plan_then, and_plan, plans_of, sel_over, tries, tries_from}
+use Rattle.rpc_model.specs.State.{State, waits, leaf_state, par_state, sel_state, States, last_state, state_then, attempts, attempts_of, size, size_of}
+use Rattle.rpc_model.specs.Machine.{machine}
+use Rattle.rpc_model.specs.Completions.{count_of}
+use Rattle.rpc_model.specs.Sends.{leaf_sends, sends_of, all_sends, is_of}
+use Rattle.rpc_model.specs.Laws.{EndsStay, NodesStay, LeavesIssueFew, NodesAreOfThePlan, TriesAreFew, SendsAreOfTheState, SendsAreAttempts, NothingIsSentTwice, OffsetsAndMeaningsAreInverse, WeavesJoin}
+use Rattle.rpc_model.proofs.Early.{weave-twice}
+use Rattle.rpc_model.proofs.Leaves.{IsKept, machine-each}
+use Rattle.rpc_model.proofs.Paths.{node-stays}
+use Rattle.rpc_model.proofs.Requests.{machine-of}
+use Rattle.rpc_model.proofs.Sends.{counted, counted-append, machine-sends}
+use Rattle.rpc_model.proofs.Versions.{versions-distinct, offset-meaning, meaning-offset}
 
--- A leaf's end stays.
-leaf_step-end : (retry : ℕ) (leaf : Leaf) (e : Event) (end : End) → leaf.end ≡ Some end → (leaf_step retry leaf e).end ≡ Some end
-leaf_step-end retry leaf (Reply node attempt code text) end h = rw h
-leaf_step-end retry leaf (Lost node attempt code) end h = rw h
-leaf_step-end retry leaf (Backup node) end h = rw h
-leaf_step-end retry leaf (Deadline node) end h = rw h
-leaf_step-end retry leaf Cancel end h = h
+-- ---- how often
 
-step_at-end : (node : ℕ) (plan : Plan) (call : ℕ) (request : List ℕ) (state : State) (e : Event) (moment : ℕ) (end : End) → end_of state ≡ Some end
-    → end_of (step_at node plan call request state e moment).state ≡ Some end
-step_at-end node (leaf_plan leaf) call request (leaf_state before) e moment end h =
-    elim (is_at node e) as (λ b. end_of (cond b (leaf_run leaf call node request before (leaf_step leaf.retry before e)) (quiet (leaf_state before))).state ≡ Some end) [
-      | true ↦ leaf_step-end leaf.retry before e end h
-      | false ↦ h
-    ]
+counted-by : (t : Send → Bool) (xs : List Send) → counted t xs ≡ count_by t xs
+counted-by t xs = is_count_by (counted t) t refl (λ x ys. by (t x) ys) xs
+  where
+    by : (v : Bool) (ys : List Send) → cond v 1 0 + counted t ys ≡ cond v (1 + counted t ys) (counted t ys)
+    by true ys = refl
+    by false ys = omega arith
 
-pub step-end : (plan : Plan) (call : ℕ) (request : List ℕ) (state : State) (e : Event) (moment : ℕ) (end : End) → end_of state ≡ Some end
-    → end_of (step plan call request state e moment).state ≡ Some end
-step-end plan call request (leaf_state before) Cancel moment end h = rw h
-step-end plan call request state (Reply node attempt code text) moment end h = step_at-end 0 plan call request state (Reply node attempt code text) moment end h
-step-end plan call request state (Lost node attempt code) moment end h = step_at-end 0 plan call request state (Lost node attempt code) moment end h
-step-end plan call request state (Backup node) moment end h = step_at-end 0 plan call request state (Backup node) moment end h
-step-end plan call request state (Deadline node) moment end h = step_at-end 0 plan call request state (Deadline node) moment end h
+counted-all : (xs : List Send) → counted (λ s. true) xs ≡ length xs
+counted-all [] = refl
+counted-all (x ∷ xs) = let h = counted-all xs in omega (arith, h)
 
--- one event more
-abbrev pub one_more : Plan → ℕ → List ℕ → Run → Event × ℕ → Run
-one_more plan call request run timed = and_then run (step plan call request run.state timed.0 timed.1)
+length-sends : (chan : LeafChan) (call node : ℕ) (request : List ℕ) (count : ℕ) → counted (λ s. true) (leaf_sends chan call node request count) ≡ count
+length-sends chan call node request zero = refl
+length-sends chan call node request (suc count) =
+    let h = length-sends chan call node request count in
+    let l = counted-append (λ s. true) (leaf_sends chan call node request count) (record { node = node; attempt = count; server = server_of chan call count; payload = request } ∷ []) in
+    omega (arith, h, l)
 
-run-end : (plan : Plan) (call : ℕ) (request : List ℕ) (run : Run) (events : List (Event × ℕ)) (end : End) → end_of run.state ≡ Some end
-    → end_of (fold (one_more plan call request) run events).state ≡ Some end
-run-end plan call request run [] end h = h
-run-end plan call request run (e ∷ events) end h = run-end plan call request (one_more plan call request run e) events end (step-end plan call request run.state e.0 e.1 end h)
+-- ---- each once
 
-pub machine-end : (plan : Plan) (call : ℕ) (request : List ℕ) (begun : ℕ) (events more : List (Event × ℕ)) (end : End)
-    → end_of (machine plan call request begun events).state ≡ Some end → end_of (machine plan call request begun (events ++ more)).state ≡ Some end
-machine-end plan call request begun events more end h =
-    rw fold-append (run-end plan call request (machine plan call request begun events) more end h)
+other-node : (node attempt n k : ℕ) → (n ≡ node → ⊥) → (n == node && k == attempt) ≡ false
+other-node node attempt n k differ = let no_match : (n == node) ≡ false = grind (arith, nat_tests) in ap (λ v. v && k == attempt) no_match
 
--- A step of a leaf issues no attempt, or one where another is left.
-abbrev pub IssuesFew : ℕ → Leaf → Leaf → Type 0
-IssuesFew retry before now = (now.issued ≡ before.issued) ⊎ ((now.issued ≡ before.issued + 1) × (before.issued ≤ retry))
+other-attempt : (node attempt n k : ℕ) → (k ≡ attempt → ⊥) → (n == node && k == attempt) ≡ false
+other-attempt node attempt n k differ = let no_match : (k == attempt) ≡ false = grind (arith, nat_tests) in ap (λ v. n == node && v) no_match ∙ by (n == node)
+  where
+    by : (v : Bool) → (v && false) ≡ false
+    by true = refl
+    by false = refl
 
-failed-issues : (retry : ℕ) (leaf : Leaf) (attempt code : ℕ) → IssuesFew retry leaf (failed retry leaf attempt code)
-failed-issues retry leaf attempt code =
-    elim (is_attempt leaf.older attempt) as (λ b. IssuesFew retry leaf (cond b (record leaf { older = None }) (cond (may_issue retry leaf && retriable code) (retried leaf) (ended leaf (Bad code))))) [
-      | true ↦ inl refl
-      | false ↦ elim (nat_le leaf.issued retry) as (λ b. nat_le leaf.issued retry ≡ b → IssuesFew retry leaf (cond (b && retriable code) (retried leaf) (ended leaf (Bad code)))) [
-        | true ↦ λ left. elim (retriable code) as (λ b. IssuesFew retry leaf (cond b (retried leaf) (ended leaf (Bad code)))) [ true ↦ inr (refl, grind arith) | false ↦ inl refl ]
-        | false ↦ λ none. inl refl
-      ] refl
-    ]
+one : (node attempt : ℕ) (chan : LeafChan) (call n : ℕ) (request : List ℕ) (k : ℕ) → List Send
+one node attempt chan call n request k = record { node = n; attempt = k; server = server_of chan call k; payload = request } ∷ []
 
-pub leaf_step-issues : (retry : ℕ) (leaf : Leaf) (e : Event) → IssuesFew retry leaf (leaf_step retry leaf e)
-leaf_step-issues retry leaf (Reply node attempt code text) =
-    elim (is_live leaf attempt) as (λ b. IssuesFew retry leaf (cond b (answered retry leaf attempt code text) leaf)) [
-      | true ↦ elim (code == 0) as (λ b. IssuesFew retry leaf (cond b (ended leaf (Good text)) (failed retry leaf attempt code))) [ true ↦ inl refl | false ↦ failed-issues retry leaf attempt code ]
-      | false ↦ inl refl
-    ]
-leaf_step-issues retry leaf (Lost node attempt code) =
-    elim (is_live leaf attempt) as (λ b. IssuesFew retry leaf (cond b (failed retry leaf attempt code) leaf)) [ true ↦ failed-issues retry leaf attempt code | false ↦ inl refl ]
-leaf_step-issues retry leaf (Backup node) =
-    elim (is_none leaf.end) as (λ b. IssuesFew retry leaf (cond (b && (not leaf.backed_up && may_issue retry leaf)) (backed leaf) leaf)) [
-      | true ↦ elim leaf.backed_up as (λ b. IssuesFew retry leaf (cond (not b && may_issue retry leaf) (backed leaf) leaf)) [
-        | true ↦ inl refl
-        | false ↦ elim (nat_le leaf.issued retry) as (λ b. nat_le leaf.issued retry ≡ b → IssuesFew retry leaf (cond b (backed leaf) leaf)) [ true ↦ λ left. inr (refl, grind arith) | false ↦ λ none. inl refl ] refl
-      ]
-      | false ↦ inl refl
-    ]
-leaf_step-issues retry leaf (Deadline node) =
-    elim (is_none leaf.end) as (λ b. IssuesFew retry leaf (cond b (ended leaf (Bad 1008)) leaf)) [ true ↦ inl refl | false ↦ inl refl ]
-leaf_step-issues retry leaf Cancel = inl refl
+leaf-other : (node attempt : ℕ) (chan : LeafChan) (call n : ℕ) (request : List ℕ) (count : ℕ) → (n ≡ node → ⊥) → counted (is_of node attempt) (leaf_sends chan call n request count) ≡ 0
+leaf-other node attempt chan call n request zero differ = refl
+leaf-other node attempt chan call n request (suc count) differ =
+    let h = leaf-other node attempt chan call n request count differ in
+    let l = counted-append (is_of node attempt) (leaf_sends chan call n request count) (record { node = n; attempt = count; server = server_of chan call count; payload = request } ∷ []) in
+    let none = ap (λ v. cond v 1 0 + 0) (other-node node attempt n count differ) in
+    omega (arith, h, l, none)
 
--- What holds of a leaf's run: few attempts, each sent.
-pub record LeafRuns (leaf : LeafChan) (call : ℕ) (request : List ℕ) (state : State) (sends : List Send) : Type 0 where
-  pub some : 1 ≤ attempts state
-  pub few : attempts state ≤ 1 + leaf.retry
-  pub sent : sends ≡ first_sends leaf call request (attempts state)
+leaf-later : (node attempt : ℕ) (chan : LeafChan) (call n : ℕ) (request : List ℕ) (count : ℕ) → count ≤ attempt → counted (is_of node attempt) (leaf_sends chan call n request count) ≡ 0
+leaf-later node attempt chan call n request zero le = refl
+leaf-later node attempt chan call n request (suc count) le =
+    let h = leaf-later node attempt chan call n request count (omega (arith, le)) in
+    let l = counted-append (is_of node attempt) (leaf_sends chan call n request count) (record { node = n; attempt = count; server = server_of chan call count; payload = request } ∷ []) in
+    let none = ap (λ v. cond v 1 0 + 0) (other-attempt node attempt n count (λ e. absurd (omega (arith, e, le)))) in
+    omega (arith, h, l, none)
 
-sent-more : (leaf : LeafChan) (call : ℕ) (request : List ℕ) (before now : ℕ) → (now ≡ before) ⊎ (now ≡ before + 1) → first_sends leaf call request before ++ sent leaf call 0 request before now ≡ first_sends leaf call request now
-sent-more leaf call request before now (inl same) =
-    let none : nat_lt before now ≡ false = grind (arith, nat_tests) in
-    let one : Send = record { node = 0; attempt = before; server = server_of leaf call before; payload = request } in
-    ap (λ v. first_sends leaf call request before ++ cond v (one ∷ []) []) none ∙ append-nil (first_sends leaf call request before) ∙ ap (first_sends leaf call request) (sym same)
-sent-more leaf call request before now (inr more) =
-    let some : nat_lt before now ≡ true = grind (arith, nat_tests) in
-    let one : Send = record { node = 0; attempt = before; server = server_of leaf call before; payload = request } in
-    let next : suc before ≡ now = omega (arith, more) in
-    ap (λ v. first_sends leaf call request before ++ cond v (one ∷ []) []) some ∙ ap (first_sends leaf call request) next
+at-most-one : (v : Bool) → cond v 1 0 + 0 ≤ 1
+at-most-one true = omega arith
+at-most-one false = omega arith
 
-pub few-issues : (retry : ℕ) (before now : Leaf) → IssuesFew retry before now → (now.issued ≡ before.issued) ⊎ (now.issued ≡ before.issued + 1)
-few-issues retry before now (inl same) = inl same
-few-issues retry before now (inr more) = inr more.0
+leaf-once : (node attempt : ℕ) (chan : LeafChan) (call n : ℕ) (request : List ℕ) (count : ℕ) → counted (is_of node attempt) (leaf_sends chan call n request count) ≤ 1
+leaf-once node attempt chan call n request zero = omega arith
+leaf-once node attempt chan call n request (suc count) = by (count == attempt) refl (leaf-once node attempt chan call n request count)
+  where
+    last : List Send
+    last = record { node = n; attempt = count; server = server_of chan call count; payload = request } ∷ []
 
-pub few-bound : (retry : ℕ) (before now : Leaf) → IssuesFew retry before now → 1 ≤ before.issued → before.issued ≤ 1 + retry → (1 ≤ now.issued) × (now.issued ≤ 1 + retry)
-few-bound retry before now (inl same) some few = (omega (arith, same), omega (arith, same))
-few-bound retry before now (inr more) some few = (omega (arith, more.0), omega (arith, more.0, more.1))
+    l : counted (is_of node attempt) (leaf_sends chan call n request count ++ last) ≡ counted (is_of node attempt) (leaf_sends chan call n request count) + counted (is_of node attempt) last
+    l = counted-append (is_of node attempt) (leaf_sends chan call n request count) last
 
-leaf_run-keeps : (leaf : LeafChan) (call : ℕ) (request : List ℕ) (before now : Leaf) (sends : List Send) → IssuesFew leaf.retry before now → LeafRuns leaf call request (leaf_state before) sends
-    → LeafRuns leaf call request (leaf_state now) (sends ++ (leaf_run leaf call 0 request before now).sends)
-leaf_run-keeps leaf call request before now sends issues h =
-    let bound = few-bound leaf.retry before now issues h.some h.few in
-    let more = sent-more leaf call request before.issued now.issued (few-issues leaf.retry before now issues) in
-    record {
-      some = bound.0;
-      few = bound.1;
-      sent = ap (λ ss. ss ++ sent leaf call 0 request before.issued now.issued) h.sent ∙ more;
-    }
+    by : (v : Bool) → (count == attempt) ≡ v → counted (is_of node attempt) (leaf_sends chan call n request count) ≤ 1
+        → counted (is_of node attempt) (leaf_sends chan call n request count ++ last) ≤ 1
+    by true e h = let before = leaf-later node attempt chan call n request count (let same : count ≡ attempt = grind (arith, nat_tests) in omega (arith, same)) in let now = at-most-one
+        (n == node && count == attempt) in omega (arith, l, before, now)
+    by false e h = let none = ap (λ v. cond v 1 0 + 0) (other-attempt node attempt n count
+        (λ same. let yes_ : (count == attempt) ≡ true = grind (arith, nat_tests) in let both = sym e ∙ yes_ in absurd (cc))) in omega (arith, l, h, none)
 
-quiet-keeps : (leaf : LeafChan) (call : ℕ) (request : List ℕ) (state : State) (sends : List Send) → LeafRuns leaf call request state sends → LeafRuns leaf call request state (sends ++ [])
-quiet-keeps leaf call request state sends h = rw append-nil h
+before_or_not : (a b : ℕ) → (a < b) ⊎ (b ≤ a)
+before_or_not a b = by (nat_lt a b) refl
+  where
+    by : (v : Bool) → nat_lt a b ≡ v → (a < b) ⊎ (b ≤ a)
+    by true e = inl (grind (arith, nat_tests))
+    by false e = inr (grind (arith, nat_tests))
 
-step_at-keeps : (leaf : LeafChan) (call : ℕ) (request : List ℕ) (before : Leaf) (sends : List Send) (e : Event) (moment : ℕ) → LeafRuns leaf call request (leaf_state before) sends
-    → LeafRuns leaf call request (step_at 0 (leaf_plan leaf) call request (leaf_state before) e moment).state (sends ++ (step_at 0 (leaf_plan leaf) call request (leaf_state before) e moment).sends)
-step_at-keeps leaf call request before sends e moment h =
-    let after : Bool → Run = λ b. cond b (leaf_run leaf call 0 request before (leaf_step leaf.retry before e)) (quiet (leaf_state before)) in
-    elim (is_at 0 e) as (λ b. LeafRuns leaf call request (after b).state (sends ++ (after b).sends)) [
-      | true ↦ leaf_run-keeps leaf call request before (leaf_step leaf.retry before e) sends (leaf_step-issues leaf.retry before e) h
-      | false ↦ quiet-keeps leaf call request (leaf_state before) sends h
-    ]
+module _ {M G : Type 0} where
+  mutual
+    outside-none : (node attempt call n : ℕ) (state : State M G) → (node < n) ⊎ (n + size state ≤ node) → counted (is_of node attempt) (sends_of call n state) ≡ 0
+    outside-none node attempt call n (waits plan) out = refl
+    outside-none node attempt call n (leaf_state chan request leaf) out = leaf-other node attempt chan call n request leaf.issued (λ e. by e out)
+      where
+        by : n ≡ node → (node < n) ⊎ (n + 1 ≤ node) → ⊥
+        by e (inl less) = absurd (omega (arith, e, less))
+        by e (inr le) = absurd (omega (arith, e, le))
+    outside-none node attempt call n (par_state par states) out = all-none node attempt call (n + 1) states (by out)
+      where
+        by : (node < n) ⊎ (n + (1 + size_of states) ≤ node) → (node < n + 1) ⊎ (n + 1 + size_of states ≤ node)
+        by (inl less) = inl (omega (arith, less))
+        by (inr le) = inr (omega (arith, le))
+    outside-none node attempt call n (sel_state sel states) out = all-none node attempt call (n + 1) states (by out)
+      where
+        by : (node < n) ⊎ (n + (1 + size_of states) ≤ node) → (node < n + 1) ⊎ (n + 1 + size_of states ≤ node)
+        by (inl less) = inl (omega (arith, less))
+        by (inr le) = inr (omega (arith, le))
 
-cancelled-issued : (leaf : Leaf) (b : Bool) → (cond b (ended leaf (Bad ECANCELED)) leaf).issued ≡ leaf.issued
-cancelled-issued leaf true = refl
-cancelled-issued leaf false = refl
+    all-none : (node attempt call n : ℕ) (states : States M G) → (node < n) ⊎ (n + size_of states ≤ node) → counted (is_of node attempt) (all_sends call n states) ≡ 0
+    all-none node attempt call n last_state out = refl
+    all-none node attempt call n (state_then state states) out =
+        let l = counted-append (is_of node attempt) (sends_of call n state) (all_sends call (n + size state) states) in
+        let a = outside-none node attempt call n state (first out) in
+        let b = all-none node attempt call (n + size state) states (others out) in
+        omega (arith, l, a, b)
+      where
+        first : (node < n) ⊎ (n + (size state + size_of states) ≤ node) → (node < n) ⊎ (n + size state ≤ node)
+        first (inl less) = inl less
+        first (inr le) = inr (omega (arith, le))
 
-step-keeps : (leaf : LeafChan) (call : ℕ) (request : List ℕ) (state : State) (sends : List Send) (e : Event) (moment : ℕ) → LeafRuns leaf call request state sends
-    → LeafRuns leaf call request (step (leaf_plan leaf) call request state e moment).state (sends ++ (step (leaf_plan leaf) call request state e moment).sends)
-step-keeps leaf call request (leaf_state before) sends Cancel moment h =
-    let same = cancelled-issued before (is_none before.end) in
-    record { some = rw same h.some; few = rw same h.few; sent = rw (same, append-nil) h.sent }
-step-keeps leaf call request (leaf_state before) sends (Reply node attempt code text) moment h = step_at-keeps leaf call request before sends (Reply node attempt code text) moment h
-step-keeps leaf call request (leaf_state before) sends (Lost node attempt code) moment h = step_at-keeps leaf call request before sends (Lost node attempt code) moment h
-step-keeps leaf call request (leaf_state before) sends (Backup node) moment h = step_at-keeps leaf call request before sends (Backup node) moment h
-step-keeps leaf call request (leaf_state before) sends (Deadline node) moment h = step_at-keeps leaf call request before sends (Deadline node) moment h
+        others : (node < n) ⊎ (n + (size state + size_of states) ≤ node) → (node < n + size state) ⊎ (n + size state + size_of states ≤ node)
+        others (inl less) = inl (omega (arith, less))
+        others (inr le) = inr (omega (arith, le))
 
-run-keeps : (leaf : LeafChan) (call : ℕ) (request : List ℕ) (run : Run) (events : List (Event × ℕ)) → LeafRuns leaf call request run.state run.sends
-    → LeafRuns leaf call request (fold (one_more (leaf_plan leaf) call request) run events).state (fold (one_more (leaf_plan leaf) call request) run events).sends
-run-keeps leaf call request run [] h = h
-run-keeps leaf call request run (e ∷ events) h =
-    run-keeps leaf call request (one_more (leaf_plan leaf) call request run e) events (step-keeps leaf call request run.state run.sends e.0 e.1 h)
+  mutual
+    state-once : (node attempt call n : ℕ) (state : State M G) → counted (is_of node attempt) (sends_of call n state) ≤ 1
+    state-once node attempt call n (waits plan) = omega arith
+    state-once node attempt call n (leaf_state chan request leaf) = leaf-once node attempt chan call n request leaf.issued
+    state-once node attempt call n (par_state par states) = all-once node attempt call (n + 1) states
+    state-once node attempt call n (sel_state sel states) = all-once node attempt call (n + 1) states
 
-pub machine-runs : (leaf : LeafChan) (call : ℕ) (request : List ℕ) (begun : ℕ) (events : List (Event × ℕ))
-    → LeafRuns leaf call request (machine (leaf_plan leaf) call request begun events).state (machine (leaf_plan leaf) call request begun events).sends
-machine-runs leaf call request begun events = run-keeps leaf call request (start (leaf_plan leaf) call request begun) events (record { some = omega arith; few = omega arith; sent = refl })
+    all-once : (node attempt call n : ℕ) (states : States M G) → counted (is_of node attempt) (all_sends call n states) ≤ 1
+    all-once node attempt call n last_state = omega arith
+    all-once node attempt call n (state_then state states) =
+        let l = counted-append (is_of node attempt) (sends_of call n state) (all_sends call (n + size state) states) in
+        by (before_or_not node (n + size state)) l (state-once node attempt call n state) (all-once node attempt call (n + size state) states)
+      where
+        sum : ℕ
+        sum = counted (is_of node attempt) (sends_of call n state ++ all_sends call (n + size state) states)
+
+        by : (node < n + size state) ⊎ (n + size state ≤ node) → sum ≡ counted (is_of node attempt) (sends_of call n state) + counted (is_of node attempt) (all_sends call (n + size state) states)
+            → counted (is_of node attempt) (sends_of call n state) ≤ 1 → counted (is_of node attempt) (all_sends call (n + size state) states) ≤ 1 → sum ≤ 1
+        by (inl less) l a b = let none = all-none node attempt call (n + size state) states (inl less) in omega (arith, l, a, none)
+        by (inr le) l a b = let none = outside-none node attempt call n state (inr le) in omega (arith, l, b, none)
+
+  mutual
+    issued-is : (call n : ℕ) (state : State M G) → counted (λ s. true) (sends_of call n state) ≡ attempts state
+    issued-is call n (waits plan) = refl
+    issued-is call n (leaf_state chan request leaf) = length-sends chan call n request leaf.issued
+    issued-is call n (par_state par states) = all-issued call (n + 1) states
+    issued-is call n (sel_state sel states) = all-issued call (n + 1) states
+
+    all-issued : (call n : ℕ) (states : States M G) → counted (λ s. true) (all_sends call n states) ≡ attempts_of states
+    all-issued call n last_state = refl
+    all-issued call n (state_then state states) =
+        let l = counted-append (λ s. true) (sends_of call n state) (all_sends call (n + size state) states) in
+        let a = issued-is call n state in
+        let b = all-issued call (n + size state) states in
+        omega (arith, l, a, b)
+
+-- ---- tries
+
+length-tries : (subs : List ℕ) (call j count : ℕ) → length (tries_from subs call j count) ≡ count
+length-tries subs call j zero = refl
+length-tries subs call j (suc count) = ap suc (length-tries subs call (j + 1) count)
+
+module _ {M G : Type 0} where
+  count-plans : (plan_of : ℕ → Option (Plan M G)) (numbers : List ℕ) (plans : Plans M G) → plans_of plan_of numbers ≡ Some plans → count_of plans ≡ length numbers
+  count-plans plan_of [] plans h = let same : last_plan ≡ plans = cc in ap count_of (sym same)
+  count-plans plan_of (number ∷ numbers) plans h = by (plan_of number) (plans_of plan_of numbers) refl refl h (λ more e. count-plans plan_of numbers more e)
+    where
+      by : (o : Option (Plan M G)) (p : Option (Plans M G)) → plan_of number ≡ o → plans_of plan_of numbers ≡ p → and_plan o p ≡ Some plans
+          → ((more : Plans M G) → plans_of plan_of numbers ≡ Some more → count_of more ≡ length numbers)
+          → count_of plans ≡ length (number ∷ numbers)
+      by None p e f h again = absurd (cc)
+      by (Some first) None e f h again = absurd (cc)
+      by (Some first) (Some more) e f h again = let same : plan_then first more ≡ plans = cc in let n = again more f in let m = ap count_of (sym same) in omega (arith, n, m)
+
+  pub tries-few : TriesAreFew M G
+  tries-few plan_of call sel plan h = by (plans_of plan_of (tries sel call)) refl h
+    where
+      by : (o : Option (Plans M G)) → plans_of plan_of (tries sel call) ≡ o → sel_over sel.timeout o ≡ Some plan → (plans : Plans M G) × (plan ≡ sel_plan sel.timeout plans)
+          × (count_of plans ≡ sel.retry + 1)
+      by None e f = absurd (cc)
+      by (Some plans) e f =
+          let same : sel_plan sel.timeout plans ≡ plan = cc in
+          (plans, sym same, count-plans plan_of (tries sel call) plans e ∙ length-tries sel.subs call 0 (sel.retry + 1))
+
+  pub inverse : OffsetsAndMeaningsAreInverse M G
+  inverse plan = (versions-distinct plan, (λ meaning offset h. meaning-offset plan meaning offset h), (λ meaning offset h. offset-meaning plan meaning offset h))
+
+-- ---- the laws
+
+few-issued : (chan : LeafChan) (before now : Leaf) → IssuesFew chan.retry before now → (1 ≤ before.issued) × (before.issued ≤ 1 + chan.retry) → (1 ≤ now.issued) × (now.issued ≤ 1 + chan.retry)
+few-issued chan before now (inl same) h = let a = h.0 in let b = h.1 in (omega (arith, same, a), omega (arith, same, b))
+few-issued chan before now (inr more) h = let a = h.0 in let m = more.0 in let n = more.1 in (omega (arith, m, a), omega (arith, m, n))
+
+few-kept : IsKept (λ chan leaf. (1 ≤ leaf.issued) × (leaf.issued ≤ 1 + chan.retry))
+few-kept = record {
+  at_start = λ chan. (omega arith, omega arith);
+  at_step = λ chan leaf e h. few-issued chan leaf (leaf_step chan.retry leaf e) (leaf_step-issues chan.retry leaf e) h;
+  at_cancel = λ chan leaf h. h;
+}
+
+some-same : {X : Type 0} (x y : X) → Some x ≡ Some y → x ≡ y
+some-same x y h = cc
+
+module _ {M G : Type 0} (kinds : Kinds M G) where
+  pub ends-stay : EndsStay kinds
+  ends-stay plan call request begun events more end h = some-same _ _ (node-stays kinds call [] plan request begun events more (machine kinds plan call request begun events).state end h refl)
+
+  pub nodes-stay : NodesStay kinds
+  nodes-stay path plan call request begun events more node end h is = node-stays kinds call path plan request begun events more node end h is
+
+  pub leaves-few : LeavesIssueFew kinds
+  leaves-few plan call request begun events = machine-each kinds (λ chan leaf. (1 ≤ leaf.issued) × (leaf.issued ≤ 1 + chan.retry)) few-kept plan call request begun events
+
+  pub nodes-of : NodesAreOfThePlan kinds
+  nodes-of plan call request begun events = machine-of kinds plan call request begun events
+
+  pub sends-of : SendsAreOfTheState kinds
+  sends-of test plan call request begun events =
+      let run = machine kinds plan call request begun events in
+      sym (counted-by test run.sends) ∙ machine-sends kinds test call plan request begun events ∙ counted-by test (sends_of call 0 run.state)
+
+  pub sends-attempts : SendsAreAttempts kinds
+  sends-attempts plan call request begun events =
+      let run = machine kinds plan call request begun events in
+      sym (counted-all run.sends) ∙ machine-sends kinds (λ s. true) call plan request begun events ∙ issued-is call 0 run.state
+
+  pub sent-once : NothingIsSentTwice kinds
+  sent-once node attempt plan call request begun events =
+      let run = machine kinds plan call request begun events in
+      let same = machine-sends kinds (is_of node attempt) call plan request begun events in
+      let once = state-once node attempt call 0 run.state in
+      let by_count = counted-by (is_of node attempt) run.sends in
+      omega (arith, same, once, by_count)
+
+pub weaves-join : WeavesJoin
+weaves-join r m b le = weave-twice r m b le

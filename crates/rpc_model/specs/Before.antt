@@ -2,13 +2,16 @@
 use Rattle.std.specs.Prelude.{ℕ, ◌+◌, ◌*◌, Bool, true, false, ◌==◌, List, [], ◌∷◌, length, find, sum_by, count_by, flat_map, Option, None, Some}
 use Rattle.std.specs.Option.{option_map}
 use Rattle.rpc_model.specs.declared.chan.Chan.{Chan}
+use Rattle.rpc_model.specs.declared.kinds.MapKind.{MapKind}
+use Rattle.rpc_model.specs.declared.kinds.MergeKind.{MergeKind}
 use Rattle.rpc_model.specs.declared.script.Mode.{Mode}
 use Rattle.rpc_model.specs.declared.script.Mode.TheVariants.{Sim, Live}
 use Rattle.rpc_model.specs.declared.script.Serve.{Serve}
 use Rattle.rpc_model.specs.declared.script.Act.{Act}
 use Rattle.rpc_model.specs.declared.script.Act.TheVariants.{Call, Cancel, Reply, Lose, Tick, Join}
 use Rattle.rpc_model.specs.declared.limits.TheConstants.{SIM_CALL_LIMIT, LIVE_CALL_LIMIT, ATTEMPT_WEIGHT, SIM_WEIGHT_LIMIT, LIVE_WEIGHT_LIMIT}
-use Rattle.rpc_model.specs.Plan.{Plan, plan, possible_attempts}
+use Rattle.rpc_model.specs.Plan.{Plan, plan}
+use Rattle.rpc_model.specs.Versions.{possible_attempts}
 
 -- how many calls may be open where a line says so, the channels with their names, the names of the servers in the order
 -- of their first mention, what servers do, and what happens, each in the order of the lines
@@ -17,7 +20,7 @@ pub record Before : Type 0 where
   pub slots : Option ℕ
   pub names : List (List ℕ)
   pub servers : List (List ℕ)
-  pub chans : List Chan
+  pub chans : List (Chan MapKind MergeKind)
   pub serves : List Serve
   pub acts : List Act
 
@@ -61,15 +64,15 @@ abbrev pub call_limit : Mode → ℕ
 call_limit Sim = SIM_CALL_LIMIT
 call_limit Live = LIVE_CALL_LIMIT
 
-abbrev pub attempts_of : Option Plan → ℕ
+abbrev pub attempts_of : Option (Plan MapKind MergeKind) → ℕ
 attempts_of None = 0
 attempts_of (Some p) = possible_attempts p
 
 -- what a call on a channel weighs: (text length + 128) for each attempt that it may issue
-abbrev pub call_weight : List Chan → ℕ → ℕ → List ℕ → ℕ
+abbrev pub call_weight : List (Chan MapKind MergeKind) → ℕ → ℕ → List ℕ → ℕ
 call_weight chans chan call text = (length text + ATTEMPT_WEIGHT) * attempts_of (plan chans chan call)
 
-abbrev pub weight_of : List Chan → Act → ℕ
+abbrev pub weight_of : List (Chan MapKind MergeKind) → Act → ℕ
 weight_of chans (Call at call chan text) = call_weight chans chan call text
 weight_of chans (Cancel at call) = 0
 weight_of chans (Reply at call node attempt code text) = 0
@@ -78,7 +81,7 @@ weight_of chans (Tick at) = 0
 weight_of chans (Join call) = 0
 
 -- what all calls weigh together
-abbrev pub total_weight : List Chan → List Act → ℕ
+abbrev pub total_weight : List (Chan MapKind MergeKind) → List Act → ℕ
 total_weight chans acts = sum_by (weight_of chans) acts
 
 abbrev pub weight_limit : Mode → ℕ

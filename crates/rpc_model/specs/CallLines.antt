@@ -1,12 +1,16 @@
 -- The lines of calls and of what comes to them: what each says behind all lines before, or the first cause for which it
 -- is refused. This project's own choice.
-use Rattle.std.specs.Prelude.{ℕ, ◌+◌, Bool, false, ◌==◌, ◌&&◌, nat_lt, nat_le, is_none, List, [], ◌∷◌, ◌++◌, length, Option, None, Some, Result, Ok}
+use Rattle.std.specs.Prelude.{ℕ, ◌+◌, Bool, false, ◌==◌, ◌&&◌, nat_lt, nat_le, is_none, is_some, List, [], ◌∷◌, ◌++◌, length, Option, None, Some, Result, Ok}
 use Rattle.rpc_model.specs.declared.script.Act.{Act}
 use Rattle.rpc_model.specs.declared.script.Act.TheVariants.{Call, Cancel, Reply, Lose, Tick, Join}
 use Rattle.rpc_model.specs.declared.script.Cause.{Cause}
 use Rattle.rpc_model.specs.declared.script.Cause.TheVariants.{SimOnly, DupCall, NoCall, BadAttempt, TooMany, TooMuch}
 use Rattle.rpc_model.specs.declared.limits.TheConstants.{MOMENT_LIMIT, CALL_NUMBER_LIMIT, CODE_LIMIT, EVENT_LIMIT}
-use Rattle.rpc_model.specs.Plan.{Plan, leaf_plan, plan}
+use Rattle.rpc_model.specs.declared.kinds.MapKind.{MapKind}
+use Rattle.rpc_model.specs.declared.kinds.MergeKind.{MergeKind}
+use Rattle.rpc_model.specs.declared.meaning.Meaning.TheVariants.{Attempt}
+use Rattle.rpc_model.specs.Plan.{Plan, plan}
+use Rattle.rpc_model.specs.Versions.{offset_of}
 use Rattle.rpc_model.specs.Words.{◌>>=◌, demand, found_or, number, known_name, text, attempt_word}
 use Rattle.rpc_model.specs.Before.{Before, is_sim, calls_of, chan_of, event_count, call_limit, call_weight, total_weight, weight_limit}
 
@@ -56,10 +60,10 @@ call_line before at call name words = do
   payload ← text words
   with_call before m c chan payload
 
--- the node is a leaf of the plan, and it may issue the attempt
-abbrev pub has_attempt : Option Plan → ℕ → ℕ → Bool
+-- the node is a leaf of the plan, and it may issue the attempt: it has a version
+abbrev pub has_attempt : Option (Plan MapKind MergeKind) → ℕ → ℕ → Bool
 has_attempt None node attempt = false
-has_attempt (Some (leaf_plan leaf)) node attempt = node == 0 && nat_le attempt leaf.retry
+has_attempt (Some p) node attempt = is_some (offset_of p (Attempt node attempt))
 
 -- the moment, the call and the attempt that a reply or a loss is for
 pub record Aim : Type 0 where

@@ -1,63 +1,75 @@
--- What holds of every run of the plain machine.
-use Rattle.std.specs.Prelude.{◌≡◌, ℕ, zero, suc, ◌+◌, ◌<◌, ◌≤◌, Bool, true, false, ◌==◌, fold, List, [], ◌∷◌, ◌++◌, count_by, None, Some}
-use Rattle.rpc_model.specs.declared.chan.LeafChan.{LeafChan}
+-- What holds of every run of the plain machine, over every channel.
+use Rattle.std.specs.Prelude.{◌≡◌, ℕ, ◌+◌, ◌≤◌, Bool, List, ◌++◌, length, count_by, Option, Some}
+use Rattle.std.specs.List.{IsDistinct}
 use Rattle.rpc_model.specs.declared.event.End.{End}
-use Rattle.rpc_model.specs.declared.event.End.TheVariants.{Good}
 use Rattle.rpc_model.specs.declared.event.Event.{Event}
-use Rattle.rpc_model.specs.declared.event.Event.TheVariants.{Reply, Lost}
-use Rattle.rpc_model.specs.Leaf.{Leaf, is_live, leaf_step}
-use Rattle.rpc_model.specs.declared.script.Script.{Script}
-use Rattle.rpc_model.specs.declared.told.Told.{Told}
-use Rattle.rpc_model.specs.declared.told.Told.TheVariants.{Ended, Unended, Full, Gone}
-use Rattle.rpc_model.specs.Plan.{Plan, leaf_plan}
-use Rattle.rpc_model.specs.Machine.{Send, end_of, attempts, server_of, machine}
-use Rattle.rpc_model.specs.Told.{told}
+use Rattle.rpc_model.specs.Effects.{Send}
+use Rattle.rpc_model.specs.declared.chan.Chan.TheVariants as chan
+use Rattle.rpc_model.specs.declared.chan.SelChan.{SelChan}
+use Rattle.rpc_model.specs.declared.meaning.Meaning.{Meaning}
+use Rattle.rpc_model.specs.Kinds.{Kinds}
+use Rattle.rpc_model.specs.Plan.{Plan, sel_plan, Plans, chan_plan}
+use Rattle.rpc_model.specs.Versions.{is_same, versions, offset_of, meaning_of}
+use Rattle.rpc_model.specs.State.{State, end_of, attempts}
+use Rattle.rpc_model.specs.Machine.{machine}
+use Rattle.rpc_model.specs.Marks.{Begun, weave}
+use Rattle.rpc_model.specs.Completions.{count_of}
+use Rattle.rpc_model.specs.Leaves.{EachLeaf}
+use Rattle.rpc_model.specs.Paths.{node_at}
+use Rattle.rpc_model.specs.Requests.{IsOf}
+use Rattle.rpc_model.specs.Sends.{sends_of, is_of}
 
--- An end never changes: whatever comes after it, the call keeps it.
-abbrev pub EndsStay : Type 0
-EndsStay = (plan : Plan) (call : ℕ) (request : List ℕ) (begun : ℕ) (events more : List (Event × ℕ)) (end : End)
-    → end_of (machine plan call request begun events).state ≡ Some end → end_of (machine plan call request begun (events ++ more)).state ≡ Some end
+module _ {M G : Type 0} (kinds : Kinds M G) where
+  -- A call that has an end stays as it is, whatever comes to it.
+  abbrev pub EndsStay : Type 0
+  EndsStay = (plan : Plan M G) (call : ℕ) (request : List ℕ) (begun : ℕ) (events more : List (Event × ℕ)) (end : End)
+      → end_of (machine kinds plan call request begun events).state ≡ Some end
+      → (machine kinds plan call request begun (events ++ more)).state ≡ (machine kinds plan call request begun events).state
 
--- A leaf issues one attempt at its start and at most as many more as it may retry.
-abbrev pub AttemptsAreFew : Type 0
-AttemptsAreFew = (leaf : LeafChan) (call : ℕ) (request : List ℕ) (begun : ℕ) (events : List (Event × ℕ))
-    → (1 ≤ attempts (machine (leaf_plan leaf) call request begun events).state) × (attempts (machine (leaf_plan leaf) call request begun events).state ≤ 1 + leaf.retry)
+  -- A node that has an end stays as it is, with all that is below it, whatever comes.
+  abbrev pub NodesStay : Type 0
+  NodesStay = (path : List ℕ) (plan : Plan M G) (call : ℕ) (request : List ℕ) (begun : ℕ) (events more : List (Event × ℕ)) (node : State M G) (end : End)
+      → end_of node ≡ Some end → node_at path (machine kinds plan call request begun events).state ≡ Some node
+      → node_at path (machine kinds plan call request begun (events ++ more)).state ≡ Some node
 
--- A leaf that may not retry issues exactly one attempt.
-abbrev pub OneAttempt : Type 0
-OneAttempt = (leaf : LeafChan) (call : ℕ) (request : List ℕ) (begun : ℕ) (events : List (Event × ℕ))
-    → leaf.retry ≡ 0 → attempts (machine (leaf_plan leaf) call request begun events).state ≡ 1
+  -- A leaf that was started has issued one attempt, and at most as many more as it may retry.
+  abbrev pub LeavesIssueFew : Type 0
+  LeavesIssueFew = (plan : Plan M G) (call : ℕ) (request : List ℕ) (begun : ℕ) (events : List (Event × ℕ))
+      → EachLeaf (λ chan leaf. (1 ≤ leaf.issued) × (leaf.issued ≤ 1 + chan.retry)) (machine kinds plan call request begun events).state
 
--- the requests of so many attempts of a leaf, each to its own server
-abbrev pub first_sends : LeafChan → ℕ → List ℕ → ℕ → List Send
-first_sends leaf call request zero = []
-first_sends leaf call request (suc count) = first_sends leaf call request count ++ record { node = 0; attempt = count; server = server_of leaf call count; payload = request } ∷ []
+  -- Each node has the channel that the plan has at its place, and the request that the mappers above it made of the
+  -- call's; a parallel node has the limits that these mappers leave, and a selective node as many tries as the plan.
+  abbrev pub NodesAreOfThePlan : Type 0
+  NodesAreOfThePlan = (plan : Plan M G) (call : ℕ) (request : List ℕ) (begun : ℕ) (events : List (Event × ℕ)) → IsOf kinds request plan (machine kinds plan call request begun events).state
 
--- A leaf sends each attempt that it issues once, in their order.
-abbrev pub SendsAreAttempts : Type 0
-SendsAreAttempts = (leaf : LeafChan) (call : ℕ) (request : List ℕ) (begun : ℕ) (events : List (Event × ℕ))
-    → let run = machine (leaf_plan leaf) call request begun events in run.sends ≡ first_sends leaf call request (attempts run.state)
+  -- What a call sent is, in some order, what its state shows: of each leaf that was started the first attempts, one for
+  -- each that it issued, each to its own server and with the leaf's request.
+  abbrev pub SendsAreOfTheState : Type 0
+  SendsAreOfTheState = (test : Send → Bool) (plan : Plan M G) (call : ℕ) (request : List ℕ) (begun : ℕ) (events : List (Event × ℕ))
+      → let run = machine kinds plan call request begun events in count_by test run.sends ≡ count_by test (sends_of call 0 run.state)
 
--- An attempt that was issued and replaced does nothing any more, whatever comes later: neither its reply nor its loss.
-abbrev pub ReplacedAttemptsDoNothing : Type 0
-ReplacedAttemptsDoNothing = (retry : ℕ) (leaf : Leaf) (attempt : ℕ) (events : List Event) (node code : ℕ) (text : List ℕ)
-    → attempt < leaf.issued → is_live leaf attempt ≡ false
-    → let later = fold (leaf_step retry) leaf events in
-    (leaf_step retry later (Reply node attempt code text) ≡ later) × (leaf_step retry later (Lost node attempt code) ≡ later)
+  -- A call sends as often as it issues attempts.
+  abbrev pub SendsAreAttempts : Type 0
+  SendsAreAttempts = (plan : Plan M G) (call : ℕ) (request : List ℕ) (begun : ℕ) (events : List (Event × ℕ))
+      → let run = machine kinds plan call request begun events in length run.sends ≡ attempts run.state
 
--- A leaf ends with a text only at a reply of code 0 with this text to an attempt that is live then.
-abbrev pub SuccessNeedsALiveReply : Type 0
-SuccessNeedsALiveReply = (retry : ℕ) (leaf : Leaf) (event : Event) (text : List ℕ)
-    → leaf.end ≡ None → (leaf_step retry leaf event).end ≡ Some (Good text)
-    → (node : ℕ) × (attempt : ℕ) × (event ≡ Reply node attempt 0 text) × (is_live leaf attempt ≡ true)
+  -- No attempt of a node is sent twice.
+  abbrev pub NothingIsSentTwice : Type 0
+  NothingIsSentTwice = (node attempt : ℕ) (plan : Plan M G) (call : ℕ) (request : List ℕ) (begun : ℕ) (events : List (Event × ℕ))
+      → count_by (is_of node attempt) (machine kinds plan call request begun events).sends ≤ 1
 
--- the end of the call of this number is told
-abbrev pub is_end_of : ℕ → Told → Bool
-is_end_of call (Ended c end attempts) = c == call
-is_end_of call (Unended c) = false
-is_end_of call (Full c) = false
-is_end_of call (Gone c) = false
+module _ (M G : Type 0) where
+  -- The plan of a selective channel has one try more than the channel may retry.
+  abbrev pub TriesAreFew : Type 0
+  TriesAreFew = (plan_of : ℕ → Option (Plan M G)) (call : ℕ) (sel : SelChan) (plan : Plan M G) → chan_plan plan_of call (Some (chan.Sel sel)) ≡ Some plan
+      → (plans : Plans M G) × (plan ≡ sel_plan sel.timeout plans) × (count_of plans ≡ sel.retry + 1)
 
--- The end of a call is told once at the most.
-abbrev pub ToldOnce : Type 0
-ToldOnce = (script : Script) (call : ℕ) → count_by (is_end_of call) (told script) ≤ 1
+  -- No two versions of a range are of the same, and offsets and meanings are inverse.
+  abbrev pub OffsetsAndMeaningsAreInverse : Type 0
+  OffsetsAndMeaningsAreInverse = (plan : Plan M G) → IsDistinct is_same (versions plan)
+      × ((meaning : Meaning) (offset : ℕ) → offset_of plan meaning ≡ Some offset → meaning_of plan offset ≡ Some meaning)
+      × ((meaning : Meaning) (offset : ℕ) → meaning_of plan offset ≡ Some meaning → offset_of plan meaning ≡ Some offset)
+
+-- A call that takes its marks up to a moment, and then those up to a later one, is the call that took all of them at once.
+abbrev pub WeavesJoin : Type 0
+WeavesJoin = (r m : ℕ) (b : Begun) → r ≤ m → weave m (weave r b) ≡ weave m b

@@ -3,13 +3,16 @@ use Rattle.std.specs.Prelude.{ℕ, Bool, true, false, ◌==◌, nat_le, max, Lis
 use Rattle.rpc_model.specs.declared.event.End.{End}
 use Rattle.rpc_model.specs.declared.event.Event.{Event}
 use Rattle.rpc_model.specs.declared.event.Event.TheVariants as event
+use Rattle.rpc_model.specs.declared.chan.Chan.{Chan}
+use Rattle.rpc_model.specs.declared.kinds.MapKind.{MapKind}
+use Rattle.rpc_model.specs.declared.kinds.MergeKind.{MergeKind}
 use Rattle.rpc_model.specs.declared.script.Script.{Script}
 use Rattle.rpc_model.specs.declared.script.Act.{Act}
 use Rattle.rpc_model.specs.declared.script.Act.TheVariants.{Call, Cancel, Reply, Lose, Tick, Join}
 use Rattle.rpc_model.specs.declared.told.Told.{Told}
 use Rattle.rpc_model.specs.declared.told.Told.TheVariants.{Ended, Unended, Full, Gone}
 use Rattle.rpc_model.specs.Plan.{Plan, plan}
-use Rattle.rpc_model.specs.Machine.{end_of, attempts}
+use Rattle.rpc_model.specs.State.{end_of, attempts}
 use Rattle.rpc_model.specs.Marks.{Begun, begin, apply, weave, finish}
 
 -- how a call stands: begun and not told, without a slot, or told
@@ -49,11 +52,11 @@ abbrev pub is_full : Script → Replay → Bool
 is_full script replay = nat_le script.slots (count_by is_begun replay.calls)
 
 -- A call begins, or finds no slot.
-abbrev pub stand_new : Bool → ℕ → Plan → List ℕ → ℕ → Standing
+abbrev pub stand_new : Bool → ℕ → Plan MapKind MergeKind → List ℕ → ℕ → Standing
 stand_new true call plan text moment = full call
 stand_new false call plan text moment = begun (begin call plan text moment)
 
-abbrev pub call_after : Script → Replay → ℕ → ℕ → List ℕ → Option Plan → Replay
+abbrev pub call_after : Script → Replay → ℕ → ℕ → List ℕ → Option (Plan MapKind MergeKind) → Replay
 call_after script replay moment call text None = record replay { reached = moment }
 call_after script replay moment call text (Some plan) =
     record { reached = moment; calls = replay.calls ++ stand_new (is_full script replay) call plan text moment ∷ [] }
@@ -103,7 +106,7 @@ abbrev pub new_tells : Bool → ℕ → List Told
 new_tells true call = Full call ∷ []
 new_tells false call = []
 
-abbrev pub call_tells : Bool → ℕ → Option Plan → List Told
+abbrev pub call_tells : Bool → ℕ → Option (Plan MapKind MergeKind) → List Told
 call_tells is_full call None = []
 call_tells is_full call (Some plan) = new_tells is_full call
 

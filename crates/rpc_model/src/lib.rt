@@ -1,5 +1,5 @@
-//! The plain machine: what a script says, what a call is, and what the joins of a script tell, by definitions that
-//! compute on lists and numbers and know nothing of slots, versions, locks, frames or timers.
+//! The plain machine: what a script says, what a call is on channels of all kinds, and what the joins of a script tell, by
+//! definitions that compute on lists and numbers and know nothing of slots, versions, locks, frames or timers.
 //!
 //! The definitions stand in `specs/`; the types that they speak of stand here. Every contract of the crates above cites
 //! them.
@@ -12,14 +12,20 @@ mod effects;
 mod entry;
 mod event;
 mod journal;
+mod kinds;
 mod laws;
+mod leaf_laws;
 mod limits;
 mod line;
+mod mapper;
+mod meaning;
+mod merger;
+mod part;
 mod script;
 mod sent;
 mod told;
 
-pub use chan::{Chan, LeafChan};
+pub use chan::{Chan, LeafChan, ParChan, PartChan, SelChan, Sub, Tag};
 pub use codes::{
     EBACKUPREQUEST, ECANCELED, ECONNREFUSED, ECONNRESET, EFAILEDSOCKET, EHOSTDOWN, EINTERNAL,
     ELIMIT, ELOGOFF, ENOMETHOD, ENOSERVICE, EPCHANFINISH, EPIPE, EREQUEST, ERESPONSE, ERPCTIMEDOUT,
@@ -30,9 +36,17 @@ pub use effects::{MarkAt, Send};
 pub use entry::{Entry, Fate, Origin};
 pub use event::{End, Event};
 pub use journal::{CallLog, Came, CancelNote, Fired, How, Journal, LaneLog, LossNote, WireLog};
+pub use kinds::{MapKind, MergeKind};
 pub use laws::{
-    attempts_are_few, due_marks_may_be_taken_at_once, ends_stay, one_attempt,
-    replaced_attempts_do_nothing, sends_are_attempts, success_needs_a_live_reply, told_once,
+    due_marks_may_be_taken_at_once, ends_stay, good_ends_need_a_live_reply, leaves_issue_few,
+    moments_are_early, nodes_are_of_the_plan, nodes_stay, nothing_is_sent_twice,
+    offsets_and_meanings_are_inverse, parallel_nodes_stand_by_completions, sends_are_attempts,
+    sends_are_of_the_state, told_attempts_are_few, told_ends_are_the_machines, told_once,
+    told_texts_need_a_reply, tries_are_few, weaves_join,
+};
+pub use leaf_laws::{
+    attempts_are_few, leaf_sends_are_attempts, one_attempt, replaced_attempts_do_nothing,
+    success_needs_a_live_reply,
 };
 pub use limits::{
     ATTEMPT_WEIGHT, CALL_NUMBER_LIMIT, CHANNEL_LIMIT, CODE_LIMIT, DEFAULT_SLOTS, DELAY_LIMIT,
@@ -41,9 +55,15 @@ pub use limits::{
     SLOT_LIMIT, SUB_LIMIT, TEXT_LIMIT, WAIT_LIMIT,
 };
 pub use line::Line;
+pub use mapper::{Mapped, Mapper};
+pub use meaning::Meaning;
+pub use merger::{Merged, Merger, Verdict};
+pub use part::Part;
 pub use script::{Act, Cause, Mode, Script, Serve};
 pub use sent::Sent;
 pub use told::Told;
 
+#[cfg(test)]
+mod mapping_tests;
 #[cfg(test)]
 mod tests;

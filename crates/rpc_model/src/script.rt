@@ -1,5 +1,6 @@
 use crate::chan::Chan;
 use crate::direction::Direction;
+use crate::kinds::{MapKind, MergeKind};
 use rpc_base::{Bytes, List};
 
 /// How a script is to run.
@@ -20,7 +21,7 @@ pub struct Script {
     /// How many servers the channels name. Servers are numbered in the order of their first mention, from 0.
     pub servers: u32,
     /// The channels, in the order of their lines.
-    pub chans: List<Chan>,
+    pub chans: List<Chan<MapKind, MergeKind>>,
     /// What servers do, in the order of the lines; each server at most once. A server that isn't named answers plainly.
     pub serves: List<Serve>,
     /// What happens, in the order of the lines.

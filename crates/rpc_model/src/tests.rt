@@ -1,4 +1,4 @@
-use super::*;
+use crate::*;
 
 /// Each code with its number, and whether another attempt may follow it.
 #[test]

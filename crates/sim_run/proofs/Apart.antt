@@ -2,8 +2,8 @@
 use Rattle.std.proofs.Common.{◌≡◌, ◌≢◌, ℕ, zero, suc, ◌+◌, ◌-◌, ◌/◌, ◌^◌, ◌<◌, ◌≤◌, ◌⊎◌, inl, inr, leb, ltb, ◌&&◌, false, if◌then◌else◌, List, [], ◌∷◌, length, slice_get, Option, None, Some, ap, sym, refl, ◌∙◌, subst, arith}
 use Rattle.std.proofs.lemmas.Bool.{cases_lt}
 use Rattle.std.proofs.lemmas.Bool.Decides.{nat_tests}
-use Rattle.rpc_model.specs.Machine.{attempts}
-use Rattle.rpc_model.specs.Marks.{Begun}
+use Rattle.sim_run.specs.PlainMachine.{attempts}
+use Rattle.sim_run.specs.PlainMarks.{Begun}
 use Rattle.id_pool.specs.Ids.{one_less, slot_of, version_of}
 use Rattle.id_pool.specs.Ranges.{Slot, Vacant, Retired, Taken, Range, offset, seen, seen_at, seen_in, look, slot_at, change}
 use Rattle.id_pool.specs.Answers.{value_says}

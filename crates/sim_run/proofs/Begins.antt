@@ -6,10 +6,10 @@ use Rattle.std.proofs.lemmas.List.Sums.{sum_by-append, count_by-le-length}
 use Rattle.std.proofs.lemmas.Map.Keys.{IsDistinct-cons, IsDistinct-head, IsDistinct-tail}
 use Rattle.std.specs.List.{IsDistinct, AllByRecursion}
 use Rattle.std.specs.Map.{keys_of}
-use Rattle.rpc_model.specs.Plan.{possible_attempts, width as plan_width}
-use Rattle.rpc_model.specs.Machine.{attempts}
-use Rattle.rpc_model.specs.Marks.{Begun, most_marks}
-use Rattle.rpc_model.specs.Told.{Standing, begun, full, is_begun}
+use Rattle.sim_run.specs.PlainPlan.{possible_attempts, width as plan_width}
+use Rattle.sim_run.specs.PlainMachine.{attempts}
+use Rattle.sim_run.specs.PlainMarks.{Begun, most_marks}
+use Rattle.sim_run.specs.PlainTold.{Standing, begun, full, is_begun}
 use Rattle.id_pool.specs.Ids.{make_id, slot_of, version_of}
 use Rattle.id_pool.specs.Ranges.{Slot, Vacant, Retired, Taken, Free, look, lowest, later, offset, change, fresh, slot_at}
 use Rattle.id_pool.specs.Answers.{value_says}

@@ -1,8 +1,8 @@
 -- What comes to a call by one of its ids, and what is left of slots, wires and marks.
 use Rattle.std.proofs.Common.{◌≡◌, ℕ, zero, suc, ◌+◌, ◌-◌, ◌^◌, ◌<◌, ◌≤◌, nat_eq, List, [], ◌∷◌, length, slice_get, Option, None, Some, ap, sym, refl, ◌∙◌, subst, arith}
 use Rattle.std.specs.Map.{lookup}
-use Rattle.rpc_model.specs.Marks.{Begun}
-use Rattle.rpc_model.specs.Told.{Standing}
+use Rattle.sim_run.specs.PlainMarks.{Begun}
+use Rattle.sim_run.specs.PlainTold.{Standing}
 use Rattle.id_pool.specs.Ids.{make_id, slot_of, version_of}
 use Rattle.id_pool.proofs.Ids.{slot_of-make_id, version_of-make_id}
 use Rattle.id_pool.specs.Ranges.{Slot, Taken, Range, Nothing, Unlocked, look, slot_at, change, change_at, changed}

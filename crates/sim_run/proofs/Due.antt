@@ -2,9 +2,9 @@
 use Rattle.std.proofs.Common.{◌≡◌, ℕ, zero, suc, ◌<◌, ◌≤◌, Bool, true, false, cond, nat_le, List, [], ◌∷◌, length, Option, Some, None, arith, refl, ap, sym, ◌∙◌, subst}
 use Rattle.std.proofs.lemmas.Bool.Decides.{nat_tests}
 use Rattle.std.specs.List.{AllByRecursion}
-use Rattle.rpc_model.specs.Machine.{Mark}
-use Rattle.rpc_model.specs.Marks.{Begun, take_mark, least_mark, lesser, is_before, weave_at_most, weave, most_marks}
-use Rattle.rpc_model.proofs.Weaves.{taken-waits, least-length, weave-idle, weave-meets}
+use Rattle.sim_run.specs.PlainMachine.{Mark}
+use Rattle.sim_run.specs.PlainMarks.{Begun, take_mark, least_mark, lesser, is_before, weave_at_most, weave, most_marks}
+use Rattle.sim_run.proofs.PlainWeaves.{taken-waits, least-length, weave-idle, weave-meets}
 use Rattle.sim_run.proofs.Later.{same-pair}
 use Rattle.sim_run.proofs.Begins.{All-weaken}
 

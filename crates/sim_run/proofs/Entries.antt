@@ -7,8 +7,8 @@ use Rattle.std.proofs.lemmas.Map.Keys.{IsDistinct-head, IsDistinct-tail}
 use Rattle.std.specs.List.{IsDistinct, AllByRecursion}
 use Rattle.std.specs.Map.{lookup}
 use Rattle.std.specs.Option.{option_map}
-use Rattle.rpc_model.specs.Marks.{Begun}
-use Rattle.rpc_model.specs.Told.{Standing, number_of, is_call, change_first}
+use Rattle.sim_run.specs.PlainMarks.{Begun}
+use Rattle.sim_run.specs.PlainTold.{Standing, number_of, is_call, change_first}
 use Rattle.id_pool.specs.Ranges.{Slot, change, look}
 use Rattle.id_pool.specs.Answers.{value_says}
 use Rattle.sim_run.specs.declared.ticket.Ticket.{Ticket}

@@ -4,10 +4,10 @@ use Rattle.std.specs.Map.{lookup}
 use Rattle.rpc_model.specs.declared.script.Script.{Script}
 use Rattle.rpc_model.specs.declared.told.Told.{Told}
 use Rattle.rpc_model.specs.declared.told.Told.TheVariants.{Gone}
-use Rattle.rpc_model.specs.Told as spec
+use Rattle.sim_run.specs.PlainTold as spec
 use Rattle.sim_run.specs.declared.ticket.Ticket.{Ticket}
 use Rattle.sim_run.specs.declared.state.Replay.{Replay}
-use Rattle.rpc_model.specs.Marks.{Begun}
+use Rattle.sim_run.specs.PlainMarks.{Begun}
 use Rattle.id_pool.specs.Ids.{version_of}
 use Rattle.id_pool.specs.Ranges.{Slot, look, changed}
 use Rattle.sim_run.specs.Link.{Link}

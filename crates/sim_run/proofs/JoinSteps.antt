@@ -8,10 +8,10 @@ use Rattle.std.specs.Option.{option_map}
 use Rattle.rpc_model.specs.declared.event.End.{End}
 use Rattle.rpc_model.specs.declared.told.Told.{Told}
 use Rattle.rpc_model.specs.declared.told.Told.TheVariants.{Gone}
-use Rattle.rpc_model.specs.Machine.{end_of}
-use Rattle.rpc_model.specs.Marks.{Begun, finish, most_marks}
-use Rattle.rpc_model.specs.Told.{Standing, begun, full, told_of, is_call, is_begun, change_first, joined, joined_moment, join_tells, join_end, stand_joined}
-use Rattle.rpc_model.proofs.Once.{finish-call}
+use Rattle.sim_run.specs.PlainMachine.{end_of}
+use Rattle.sim_run.specs.PlainMarks.{Begun, finish, most_marks}
+use Rattle.sim_run.specs.PlainTold.{Standing, begun, full, told_of, is_call, is_begun, change_first, joined, joined_moment, join_tells, join_end, stand_joined}
+use Rattle.sim_run.proofs.PlainOnce.{finish-call}
 use Rattle.id_pool.specs.Ids.{version_of}
 use Rattle.id_pool.specs.Ranges.{Slot, Vacant, Retired, Taken, Range, Nothing, Unlocked, seen, look, slot_at, change, change_at, changed, left_by}
 use Rattle.id_pool.specs.Answers.{value_says}

@@ -2,8 +2,8 @@
 use Rattle.std.proofs.Common.{◌≡◌, ℕ, ◌+◌, ◌-◌, ◌^◌, ◌<◌, ◌≤◌, nat_eq, List, length, Option, None, Some, ap, sym, refl, ◌∙◌, subst, arith}
 use Rattle.std.specs.Map.{lookup}
 use Rattle.rpc_model.specs.declared.event.End.{End}
-use Rattle.rpc_model.specs.Machine.{end_of}
-use Rattle.rpc_model.specs.Marks.{Begun}
+use Rattle.sim_run.specs.PlainMachine.{end_of}
+use Rattle.sim_run.specs.PlainMarks.{Begun}
 use Rattle.id_pool.specs.Ids.{make_id, version_of}
 use Rattle.id_pool.specs.Ranges.{Slot, Vacant, Taken, Range, Nothing, look, change, change_at, changed}
 use Rattle.id_pool.specs.Answers.{value_says}

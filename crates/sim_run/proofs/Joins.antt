@@ -3,9 +3,9 @@ use Rattle.std.proofs.Common.{◌≡◌, ◌≢◌, ℕ, ◌-◌, ◌≤◌, ◌
 use Rattle.std.specs.Option.{option_map}
 use Rattle.rpc_model.specs.declared.event.End.{End}
 use Rattle.rpc_model.specs.declared.told.Told.TheVariants.{Unended}
-use Rattle.rpc_model.specs.Machine.{end_of}
-use Rattle.rpc_model.specs.Marks.{Begun}
-use Rattle.rpc_model.specs.Told.{join_end}
+use Rattle.sim_run.specs.PlainMachine.{end_of}
+use Rattle.sim_run.specs.PlainMarks.{Begun}
+use Rattle.sim_run.specs.PlainTold.{join_end}
 use Rattle.id_pool.specs.Ids.{slot_of, version_of}
 use Rattle.id_pool.specs.Ranges.{Slot, Vacant, Retired, Taken, Range, Standing, Free, Held, Ended, Seen, Nothing, Unlocked, Locked, Over, offset, seen, seen_at, seen_in, look, own, owned_at, owned_in, slot_at, changed, locked, locked_by, destroyed, destroyed_by, collected, collected_by, held, stands, with_value}
 use Rattle.id_pool.specs.Answers.{lock_says, value_says}

@@ -6,13 +6,13 @@ use Rattle.rpc_model.specs.declared.codes.TheConstants.{ECANCELED}
 use Rattle.rpc_model.specs.declared.event.End.TheVariants.{Bad}
 use Rattle.rpc_model.specs.declared.event.Event.{Event}
 use Rattle.rpc_model.specs.declared.event.Event.TheVariants as event
-use Rattle.rpc_model.specs.Plan.{Plan, leaf_plan, possible_attempts}
+use Rattle.sim_run.specs.PlainPlan.{Plan, leaf_plan, possible_attempts}
 use Rattle.rpc_model.specs.Leaf.{Leaf, leaf_step, ended}
-use Rattle.rpc_model.specs.Machine.{State, leaf_state, Mark, attempts, end_of, is_at, leaf_run, quiet, step, step_at}
-use Rattle.rpc_model.specs.Marks.{Begun, apply, take_mark, mark_event, least_mark, lesser, is_before, weave_at_most, weave_least, finish_at_most, finish_least, most_marks}
-use Rattle.rpc_model.proofs.MomentsStay.{step-sets}
-use Rattle.rpc_model.proofs.Runs.{IssuesFew, leaf_step-issues}
-use Rattle.rpc_model.proofs.Weaves.{least-length}
+use Rattle.sim_run.specs.PlainMachine.{State, leaf_state, Mark, attempts, end_of, is_at, leaf_run, quiet, step, step_at}
+use Rattle.sim_run.specs.PlainMarks.{Begun, apply, take_mark, mark_event, least_mark, lesser, is_before, weave_at_most, weave_least, finish_at_most, finish_least, most_marks}
+use Rattle.sim_run.proofs.PlainMomentsStay.{step-sets}
+use Rattle.rpc_model.proofs.Issues.{IssuesFew, leaf_step-issues}
+use Rattle.sim_run.proofs.PlainWeaves.{least-length}
 use Rattle.sim_run.specs.declared.turn.Turn.{Turn}
 use Rattle.sim_run.specs.declared.turn.Turn.TheVariants as turn
 use Rattle.sim_run.specs.Link.{Link}

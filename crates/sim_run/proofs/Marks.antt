@@ -4,8 +4,8 @@ use Rattle.std.proofs.lemmas.Bool.Decides.{nat_tests}
 use Rattle.rpc_model.specs.declared.event.End.{End}
 use Rattle.rpc_model.specs.declared.event.Event.TheVariants as event
 use Rattle.rpc_model.specs.declared.chan.LeafChan.{LeafChan}
-use Rattle.rpc_model.specs.Machine.{Mark, deadline, backup}
-use Rattle.rpc_model.specs.Marks.{Begun, apply, least_mark, is_before}
+use Rattle.sim_run.specs.PlainMachine.{Mark, deadline, backup}
+use Rattle.sim_run.specs.PlainMarks.{Begun, apply, least_mark, is_before}
 use Rattle.call_leaf.specs.Keeps.{Kept}
 use Rattle.sim_run.specs.Calls.{begun_of, mark_of, taken_due, finished_least, finished_once}
 

@@ -4,8 +4,8 @@ use Rattle.std.specs.List.{IsDistinct, AllByRecursion}
 use Rattle.std.specs.Map.{lookup}
 use Rattle.rpc_model.specs.declared.event.Event.{Event}
 use Rattle.rpc_model.specs.declared.script.Script.{Script}
-use Rattle.rpc_model.specs.Marks.{Begun, weave}
-use Rattle.rpc_model.specs.Told as spec
+use Rattle.sim_run.specs.PlainMarks.{Begun, weave}
+use Rattle.sim_run.specs.PlainTold as spec
 use Rattle.id_pool.specs.Ids.{version_of}
 use Rattle.id_pool.specs.Ranges.{Slot, Vacant, Taken, Range, changed, look, opened}
 use Rattle.sim_run.specs.declared.ticket.Ticket.{Ticket}

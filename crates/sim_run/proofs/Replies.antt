@@ -6,8 +6,8 @@ use Rattle.std.specs.List.{AllByRecursion}
 use Rattle.std.specs.Map.{lookup}
 use Rattle.rpc_model.specs.declared.event.Event.{Event}
 use Rattle.rpc_model.specs.declared.script.Script.{Script}
-use Rattle.rpc_model.specs.Marks.{Begun}
-use Rattle.rpc_model.specs.Told as spec
+use Rattle.sim_run.specs.PlainMarks.{Begun}
+use Rattle.sim_run.specs.PlainTold as spec
 use Rattle.id_pool.specs.Ids.{slot_of, version_of}
 use Rattle.id_pool.specs.Ranges.{Slot, Vacant, Retired, Taken, Nothing, look, slot_at, changed}
 use Rattle.id_pool.specs.Answers.{find_says, value_says}

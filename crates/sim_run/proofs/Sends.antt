@@ -8,8 +8,8 @@ use Rattle.rpc_model.specs.declared.chan.Chan.{Chan}
 use Rattle.rpc_model.specs.declared.chan.Chan.TheVariants as chan
 use Rattle.rpc_model.specs.declared.chan.LeafChan.{LeafChan}
 use Rattle.rpc_model.specs.declared.sent.Sent.{Sent}
-use Rattle.rpc_model.specs.Plan.{Plan, leaf_plan, chan_plan}
-use Rattle.rpc_model.specs.Marks.{Begun}
+use Rattle.sim_run.specs.PlainPlan.{Plan, leaf_plan, chan_plan}
+use Rattle.sim_run.specs.PlainMarks.{Begun}
 use Rattle.link_core.specs.Outstanding.{is_outstanding, call_of}
 use Rattle.sim_run.specs.Link.{Link}
 use Rattle.sim_run.specs.Wires.{IsChangedAt, on_wire, sent, received, server_at}

@@ -5,9 +5,9 @@ use Rattle.std.specs.List.{AllByRecursion}
 use Rattle.std.specs.Map.{lookup}
 use Rattle.std.specs.Option.{option_map}
 use Rattle.rpc_model.specs.declared.event.Event.{Event}
-use Rattle.rpc_model.specs.Plan.{Plan, leaf_plan, possible_attempts, width}
-use Rattle.rpc_model.specs.Marks.{Begun, apply, weave, most_marks}
-use Rattle.rpc_model.specs.Told.{Standing, begun, full, told_of, is_call, is_begun, change_first, event_after}
+use Rattle.sim_run.specs.PlainPlan.{Plan, leaf_plan, possible_attempts, width}
+use Rattle.sim_run.specs.PlainMarks.{Begun, apply, weave, most_marks}
+use Rattle.sim_run.specs.PlainTold.{Standing, begun, full, told_of, is_call, is_begun, change_first, event_after}
 use Rattle.id_pool.specs.Ids.{one_less, slot_of, version_of}
 use Rattle.id_pool.specs.Ranges.{Slot, Vacant, Retired, Taken, Range, Free, Nothing, Unlocked, offset, seen, seen_at, seen_in, look, slot_at, change, change_at, changed}
 use Rattle.id_pool.specs.Answers.{value_says}

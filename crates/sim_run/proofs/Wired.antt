@@ -2,9 +2,9 @@
 use Rattle.std.proofs.Common.{◌≡◌, ◌≢◌, ℕ, ◌+◌, ◌-◌, ◌^◌, ◌<◌, ◌≤◌, inl, inr, Bool, true, false, nat_eq, List, [], ◌∷◌, length, slice_get, Some, is_some, if◌then◌else◌, ap, sym, refl, ◌∙◌, subst, arith}
 use Rattle.std.proofs.lemmas.Bool.{cases_lt, ne_eqb}
 use Rattle.std.specs.List.{AllByRecursion}
-use Rattle.rpc_model.specs.Plan.{possible_attempts}
-use Rattle.rpc_model.specs.Machine.{attempts}
-use Rattle.rpc_model.specs.Marks.{Begun}
+use Rattle.sim_run.specs.PlainPlan.{possible_attempts}
+use Rattle.sim_run.specs.PlainMachine.{attempts}
+use Rattle.sim_run.specs.PlainMarks.{Begun}
 use Rattle.id_pool.specs.Ids.{make_id, slot_of, version_of}
 use Rattle.id_pool.proofs.Ids.{slot_of-make_id, version_of-make_id, make_id-plus}
 use Rattle.id_pool.specs.Ranges.{Slot, Vacant, Retired, Taken, Range, change, fresh, slot_at}

@@ -4,9 +4,9 @@ use Rattle.rpc_model.specs.declared.event.End.{End}
 use Rattle.rpc_model.specs.declared.event.Event.{Event}
 use Rattle.rpc_model.specs.declared.chan.LeafChan.{LeafChan}
 use Rattle.rpc_model.specs.Leaf.{Leaf, leaf_step}
-use Rattle.rpc_model.specs.Plan.{Plan, leaf_plan}
-use Rattle.rpc_model.specs.Machine.{State, leaf_state, end_of, Mark, deadline, backup}
-use Rattle.rpc_model.specs.Marks.{Begun, least_mark, take_mark}
+use Rattle.sim_run.specs.PlainPlan.{Plan, leaf_plan}
+use Rattle.sim_run.specs.PlainMachine.{State, leaf_state, end_of, Mark, deadline, backup}
+use Rattle.sim_run.specs.PlainMarks.{Begun, least_mark, take_mark}
 use Rattle.call_leaf.specs.Keeps.{Kept}
 
 -- the leaf of a call that has this end or none

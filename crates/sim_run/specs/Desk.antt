@@ -2,18 +2,18 @@
 use Rattle.std.specs.Prelude.{◌≡◌, ℕ, ◌+◌, ◌*◌, ◌<◌, ◌≤◌, ◌⊎◌, ◌==◌, ◌&&◌, Bool, true, false, nat_eq, nat_lt, if◌then◌else◌, List, [], ◌∷◌, ◌++◌, map, take, length, count_by, Option, None, Some}
 use Rattle.std.specs.List.{IsDistinct, AllByRecursion}
 use Rattle.std.specs.Map.{keys_of}
-use Rattle.rpc_model.specs.Plan.{possible_attempts, width}
-use Rattle.rpc_model.specs.Machine.{attempts}
-use Rattle.rpc_model.specs.Marks.{Begun, most_marks}
-use Rattle.rpc_model.specs.Told.{Standing, begun, full, told_of, is_begun}
+use Rattle.sim_run.specs.PlainPlan.{possible_attempts, width}
+use Rattle.sim_run.specs.PlainMachine.{attempts}
+use Rattle.sim_run.specs.PlainMarks.{Begun, most_marks}
+use Rattle.sim_run.specs.PlainTold.{Standing, begun, full, told_of, is_begun}
 use Rattle.id_pool.specs.Ids.{slot_of, version_of}
 use Rattle.id_pool.specs.Ranges.{Slot, Range, Vacant, Retired, Taken, Free, slot_at, look}
 use Rattle.id_pool.specs.Answers.{value_says}
 use Rattle.rpc_model.specs.declared.script.Script.{Script}
 use Rattle.rpc_model.specs.declared.script.Act.{Act}
 use Rattle.rpc_model.specs.declared.told.Told.{Told}
-use Rattle.rpc_model.specs.Fits.{called}
-use Rattle.rpc_model.specs.Told as spec
+use Rattle.rpc_model.specs.Limits.{called}
+use Rattle.sim_run.specs.PlainTold as spec
 use Rattle.sim_run.specs.declared.ticket.Ticket.{Ticket}
 use Rattle.sim_run.specs.declared.state.Replay.{Replay}
 use Rattle.sim_run.specs.Link.{Link}

@@ -4,7 +4,7 @@ use Rattle.std.specs.List.{AllByRecursion}
 use Rattle.std.specs.Map.{lookup}
 use Rattle.rpc_model.specs.declared.chan.LeafChan.{LeafChan}
 use Rattle.rpc_model.specs.declared.codes.TheConstants.{ERPCTIMEDOUT, EBACKUPREQUEST}
-use Rattle.rpc_model.specs.Marks.{Begun, weave}
+use Rattle.sim_run.specs.PlainMarks.{Begun, weave}
 use Rattle.id_pool.specs.Ids.{make_id}
 use Rattle.id_pool.specs.Ranges.{Range, Slot, Taken}
 use Rattle.timer_core.specs.declared.mark.Mark.{Mark}

@@ -1,9 +1,9 @@
 -- The requests that a call's attempts send: which server each goes to, under which id, and what the wires are then. This project's own choice.
 use Rattle.std.specs.Prelude.{◌≡◌, ℕ, zero, suc, ◌+◌, ◌-◌, ◌^◌, ◌<◌, ◌≤◌, ◌⊎◌, false, List, [], ◌∷◌, length, slice_get, All, Option, None, Some}
 use Rattle.std.specs.List.{AllByRecursion}
-use Rattle.rpc_model.specs.Plan.{Plan, leaf_plan, possible_attempts}
-use Rattle.rpc_model.specs.Machine.{attempts, server_of}
-use Rattle.rpc_model.specs.Marks.{Begun}
+use Rattle.sim_run.specs.PlainPlan.{Plan, leaf_plan, possible_attempts}
+use Rattle.sim_run.specs.PlainMachine.{attempts, server_of}
+use Rattle.sim_run.specs.PlainMarks.{Begun}
 use Rattle.id_pool.specs.Ids.{make_id}
 use Rattle.id_pool.specs.Ranges.{Range, Slot, Taken, Seen, Nothing, Unlocked, Locked, look}
 use Rattle.link_core.specs.Outstanding.{is_outstanding}

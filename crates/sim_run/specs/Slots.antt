@@ -3,9 +3,9 @@ use Rattle.std.specs.Prelude.{◌≡◌, ℕ, zero, suc, ◌==◌, List, Option,
 use Rattle.rpc_model.specs.declared.event.End.{End}
 use Rattle.rpc_model.specs.declared.event.Event.{Event}
 use Rattle.rpc_model.specs.declared.told.Told.{Told}
-use Rattle.rpc_model.specs.Machine.{end_of}
-use Rattle.rpc_model.specs.Marks.{Begun, apply, weave, finish}
-use Rattle.rpc_model.specs.Told.{join_end}
+use Rattle.sim_run.specs.PlainMachine.{end_of}
+use Rattle.sim_run.specs.PlainMarks.{Begun, apply, weave, finish}
+use Rattle.sim_run.specs.PlainTold.{join_end}
 use Rattle.id_pool.specs.Ids.{version_of}
 use Rattle.sim_run.specs.declared.slots.Finished.{Finished}
 use Rattle.rpc_model.specs.declared.event.Event.TheVariants as event

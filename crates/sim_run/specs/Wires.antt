@@ -3,7 +3,7 @@ use Rattle.std.specs.Prelude.{◌≡◌, ℕ, zero, suc, List, [], ◌∷◌, �
 use Rattle.link_core.specs.Outstanding.{without}
 use Rattle.rpc_model.specs.declared.chan.Chan.{Chan}
 use Rattle.rpc_model.specs.declared.chan.Chan.TheVariants as chan
-use Rattle.rpc_model.specs.Machine.{server_of}
+use Rattle.sim_run.specs.PlainMachine.{server_of}
 use Rattle.sim_run.specs.Link.{Link}
 
 -- the wire of this number was changed, and no other

@@ -1,7 +1,7 @@
 //! The marks of a call that begins.
 
 ghost use Rattle.std.specs.Prelude.{◌≡◌, ◌^◌, ◌<◌, OnOk};
-ghost use Rattle.rpc_model.specs.Fits.{IsWait};
+ghost use Rattle.rpc_model.specs.Limits.{IsWait};
 ghost use Rattle.sim_run.specs.Marked.{with_mark, with_marks};
 
 use rpc_base::NoMemory;

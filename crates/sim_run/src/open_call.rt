@@ -1,12 +1,12 @@
 //! A call that has begun and was not told.
 
 ghost use Rattle.std.specs.Prelude.{◌≡◌, ℕ, ◌+◌, ◌^◌, ◌<◌, ◌≤◌, Option, None, Some, is_some, IfOk};
-ghost use Rattle.rpc_model.specs.Plan.{leaf_plan};
+ghost use Rattle.sim_run.specs.PlainPlan.{leaf_plan};
 ghost use Rattle.sim_run.specs.Sends.{HasServer, server_in};
-ghost use Rattle.rpc_model.specs.Machine.{end_of, attempts};
-ghost use Rattle.rpc_model.specs.Told.{join_end};
-ghost use Rattle.rpc_model.specs.Marks.{begin, apply, weave, finish};
-ghost use Rattle.rpc_model.specs.Fits.{IsWait};
+ghost use Rattle.sim_run.specs.PlainMachine.{end_of, attempts};
+ghost use Rattle.sim_run.specs.PlainTold.{join_end};
+ghost use Rattle.sim_run.specs.PlainMarks.{begin, apply, weave, finish};
+ghost use Rattle.rpc_model.specs.Limits.{IsWait};
 ghost use Rattle.call_leaf.specs.Keeps.{event_of};
 ghost use Rattle.sim_run.specs.Calls.{due_after, stepped, taken_due, finished_once};
 ghost use Rattle.sim_run.specs.Slots.{turned};
@@ -34,7 +34,7 @@ pub(crate) struct OpenCall {
 
 impl Model for OpenCall {
     ghost use Rattle.std.specs.Prelude.{◌≡◌, ◌<◌, ◌^◌};
-    ghost use Rattle.rpc_model.specs.Marks.{Begun};
+    ghost use Rattle.sim_run.specs.PlainMarks.{Begun};
     ghost use Rattle.sim_run.specs.Calls.{begun_of, IsOpen};
 
     ghost Value = { Begun };

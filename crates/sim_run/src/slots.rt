@@ -5,7 +5,7 @@ ghost use Rattle.std.specs.Option.{option_map};
 ghost use Rattle.id_pool.specs.Ids as ids;
 ghost use Rattle.id_pool.specs.Answers.{value_says};
 ghost use Rattle.id_pool.specs.Ranges.{changed, created, look, lowest};
-ghost use Rattle.rpc_model.specs.Machine.{attempts};
+ghost use Rattle.sim_run.specs.PlainMachine.{attempts};
 ghost use Rattle.sim_run.specs.Slots.{IsFirst, visit, touch, turned, brought, brought_wires, reply_event, loss_event, finished, finished_of, join, join_says};
 ghost use Rattle.sim_run.specs.Sends.{MayIssueFrom, FoundMayIssue, LookMayIssue, posted, issue_found, issue_by};
 

@@ -1,11 +1,12 @@
 ghost use Rattle.std.specs.Prelude.{◌≡◌, ℕ, ◌+◌, ◌*◌, ◌^◌, ◌<◌, ◌≤◌, List, [], ◌∷◌, ◌++◌, max, nat_eq, length, find, take, Option, None, Some, OnOk, OnErr, IfOk, All, false};
 ghost use Rattle.std.specs.Map.{keys_of, lookup};
-ghost use Rattle.rpc_model.specs.Fits.{Fits, IsAct, IsMoment, called};
-ghost use Rattle.rpc_model.specs.Machine.{server_of};
-ghost use Rattle.rpc_model.specs.Plan.{leaf_plan, plan};
-ghost use Rattle.rpc_model.specs.Told as spec;
+ghost use Rattle.rpc_model.specs.Limits.{IsAct, IsMoment, called};
+ghost use Rattle.rpc_model.specs.Fits.{Fits};
+ghost use Rattle.sim_run.specs.PlainMachine.{server_of};
+ghost use Rattle.sim_run.specs.PlainPlan.{leaf_plan, plan};
+ghost use Rattle.sim_run.specs.PlainTold as spec;
 ghost use Rattle.rpc_model.specs.declared.event.Event.TheVariants as event;
-ghost use Rattle.rpc_model.specs.Early.{settled};
+ghost use Rattle.sim_run.specs.PlainEarly.{settled};
 ghost use Rattle.sim_run.specs.Desk.{IsReady, replay_of, ticket_in, IsNew};
 ghost use Rattle.sim_run.specs.Marked.{AreSettled};
 ghost use Rattle.std.specs.List.{AllByRecursion, IsDistinct};
@@ -289,7 +290,7 @@ impl Replay {
     }
 
     /// One more line.
-    #[tactic(auto, unfolding(rpc_model::specs::Told::after, rpc_model::specs::Told::tells))]
+    #[tactic(auto, unfolding(sim_run::specs::PlainTold::after, sim_run::specs::PlainTold::tells))]
     pub(crate) fn step(
         &mut self,
         alloc: Global,

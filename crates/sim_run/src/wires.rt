@@ -4,10 +4,11 @@ ghost use Rattle.std.specs.Prelude.{◌≡◌, ◌+◌, ◌^◌, ◌<◌, ◌≤
 ghost use Rattle.std.specs.List.{AllByRecursion};
 ghost use Rattle.id_pool.specs.Ranges.{Slot};
 ghost use Rattle.link_core.specs.Outstanding.{is_outstanding};
-ghost use Rattle.rpc_model.specs.Fits.{IsChan, IsLeaf};
-ghost use Rattle.rpc_model.specs.Plan.{leaf_plan, plan};
-ghost use Rattle.rpc_model.specs.Machine.{server_of};
-ghost use Rattle.rpc_model.specs.Marks.{Begun};
+ghost use Rattle.rpc_model.specs.Limits.{IsLeaf};
+ghost use Rattle.rpc_model.specs.Fits.{IsChan};
+ghost use Rattle.sim_run.specs.PlainPlan.{leaf_plan, plan};
+ghost use Rattle.sim_run.specs.PlainMachine.{server_of};
+ghost use Rattle.sim_run.specs.PlainMarks.{Begun};
 ghost use Rattle.sim_run.specs.Desk.{IsWire};
 ghost use Rattle.sim_run.specs.Wires.{IsChangedAt, sent, received, server_on};
 

@@ -1,11 +1,11 @@
 //! The lines of calls and of what comes to them.
 
-ghost use Rattle.std.specs.Prelude.{◌≡◌, ℕ, ◌+◌, ◌^◌, ◌<◌, ◌≤◌, [], ◌∷◌, ◌++◌, length, Option, None, Some, OnOk, OnErr, IfOk, Err, Ok};
+ghost use Rattle.std.specs.Prelude.{◌≡◌, ℕ, ◌+◌, ◌^◌, ◌<◌, ◌≤◌, [], ◌∷◌, ◌++◌, length, Option, MatchOption, IfSome, None, Some, OnOk, OnErr, IfOk, Err, Ok};
 ghost use Rattle.rpc_model.specs.CallLines as spec;
 ghost use Rattle.rpc_model.specs.Before as before;
 ghost use Rattle.rpc_model.specs.Words as words_spec;
-ghost use Rattle.rpc_model.specs.Plan.{plan};
-ghost use Rattle.rpc_model.specs.Fits.{IsAct, IsMoment, begins};
+ghost use Rattle.rpc_model.specs.Plan.{plan, leaf_plan};
+ghost use Rattle.rpc_model.specs.Limits.{IsAct, IsMoment, begins};
 ghost use Rattle.rpc_model.specs.declared.script.Act.TheVariants as act;
 ghost use Rattle.call_script.specs.Judged.{Judged, Gives};
 
@@ -15,7 +15,7 @@ use crate::words::{attempt_word, is_name, number, text};
 use rpc_base::Bytes;
 use rpc_model::{
     ATTEMPT_WEIGHT, Act, CALL_NUMBER_LIMIT, CODE_LIMIT, Cause, Chan, EVENT_LIMIT, LIVE_CALL_LIMIT,
-    LIVE_WEIGHT_LIMIT, MOMENT_LIMIT, Mode, SIM_CALL_LIMIT, SIM_WEIGHT_LIMIT,
+    LIVE_WEIGHT_LIMIT, LeafChan, MOMENT_LIMIT, Mode, SIM_CALL_LIMIT, SIM_WEIGHT_LIMIT,
 };
 
 /// The moment, the call and the attempt that a reply or a loss is for.
@@ -28,13 +28,24 @@ struct Aim {
 }
 
 impl Reader {
+    /// The plain channel of this number.
+    fn leaf_on(&self, chan: u32) -> Option<&LeafChan>
+        ensures plan { MatchOption result ((call : ℕ) → plan self.now.chans chan call ≡ None) (λ leaf. (call : ℕ) → plan self.now.chans chan call ≡ Some (leaf_plan leaf.now)) }
+        ensures few { IfSome result (λ leaf. leaf.now.retry ≤ 100) }
+    {
+        match self.chans.get(chan as usize)? {
+            Chan::Leaf(leaf) => Some(leaf),
+            _ => unreachable!(),
+        }
+    }
+
     /// How many attempts a call on this channel may issue.
     fn attempts_on(&self, chan: u32) -> u64
         ensures value { (call : ℕ) → result ≡ before.attempts_of (plan self.now.chans chan call) }
         ensures bound { result ≤ 2 ^ 32 }
     {
-        match self.chans.get(chan as usize) {
-            Some(Chan::Leaf(leaf)) => u64::from(leaf.retry) + 1,
+        match self.leaf_on(chan) {
+            Some(leaf) => u64::from(leaf.retry) + 1,
             None => 0,
         }
     }
@@ -43,8 +54,8 @@ impl Reader {
     fn has_attempt(&self, chan: u32, node: u32, attempt: u32) -> bool
         ensures { (call : ℕ) → result ≡ spec.has_attempt (plan self.now.chans chan call) node attempt }
     {
-        match self.chans.get(chan as usize) {
-            Some(Chan::Leaf(leaf)) => node == 0 && attempt <= leaf.retry,
+        match self.leaf_on(chan) {
+            Some(leaf) => is_attempt(leaf, node, attempt),
             None => false,
         }
     }
@@ -341,4 +352,12 @@ fn call_number(word: &[u8]) -> Result<u32, Cause>
 {
     let number = number(word, 1, CALL_NUMBER_LIMIT)?;
     Ok(number as u32)
+}
+
+/// Whether a plain channel's call may issue this attempt at this node.
+#[tactic(auto, using(crate::proofs::Plain::plain_attempt))]
+fn is_attempt(leaf: &LeafChan, node: u32, attempt: u32) -> bool
+    ensures { result ≡ spec.has_attempt (Some (leaf_plan leaf.now)) node attempt }
+{
+    node == 0 && attempt <= leaf.retry
 }

@@ -4,7 +4,7 @@ ghost use Rattle.std.specs.Prelude.{◌≡◌, ◌<◌, ◌≤◌, nat_le, IsTru
 ghost use Rattle.std.specs.List.{slice_split, list_all};
 ghost use Rattle.rpc_model.specs.ChannelLines as spec;
 ghost use Rattle.rpc_model.specs.Words as words_spec;
-ghost use Rattle.rpc_model.specs.Fits.{IsLeaf, IsWait};
+ghost use Rattle.rpc_model.specs.Limits.{IsLeaf, IsWait};
 ghost use Rattle.rpc_model.specs.declared.chan.Chan.TheVariants as chan;
 ghost use Rattle.call_script.specs.Judged.{Judged, Gives};
 

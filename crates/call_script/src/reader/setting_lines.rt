@@ -3,7 +3,7 @@
 ghost use Rattle.std.specs.Prelude.{◌≡◌, ◌<◌, map, length, All, IfOk};
 ghost use Rattle.rpc_model.specs.SettingLines as spec;
 ghost use Rattle.rpc_model.specs.Words as words_spec;
-ghost use Rattle.rpc_model.specs.Fits.{IsSpelled};
+ghost use Rattle.rpc_model.specs.Limits.{IsSpelled};
 ghost use Rattle.call_script.specs.Judged.{Gives, Judged};
 
 use super::Reader;

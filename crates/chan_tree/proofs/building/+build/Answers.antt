@@ -1,8 +1,8 @@
 -- A channel's plan from those of its subs, which come before it.
 use Rattle.std.proofs.Common.{rules, arith, ◌≡◌, ◌+◌, ◌-◌, ◌%◌, ◌∷◌, slice_index, Some, length, drop, ap, sym, ◌∙◌, subst}
-use Rattle.tree_model.specs.declared.chan.Chan.TheVariants as chan
-use Rattle.tree_model.specs.Plan as spec
-use Rattle.tree_model.specs.Plan.{tries, tries_from}
+use Rattle.rpc_model.specs.declared.chan.Chan.TheVariants as chan
+use Rattle.rpc_model.specs.Plan as spec
+use Rattle.rpc_model.specs.Plan.{tries, tries_from}
 use Rattle.chan_tree.specs.Sound.{AreBefore}
 use Rattle.chan_tree.specs.Measures.{numbers_of}
 use Rattle.chan_tree.specs.Shown.{IsPlanOf, AreLeft, ArePlansOf, plans_of as plans_shown, rule_of as rule_shown}

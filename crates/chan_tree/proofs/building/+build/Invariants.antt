@@ -1,5 +1,5 @@
 use Rattle.std.proofs.Common.{◌≡◌, ◌+◌, ◌*◌, ◌-◌, ◌≤◌, drop}
-use Rattle.tree_model.specs.Plan.{tries, tries_from}
+use Rattle.rpc_model.specs.Plan.{tries, tries_from}
 use Rattle.chan_tree.specs.Measures.{numbers_of}
 use Rattle.chan_tree.specs.Shown.{AreLeft}
 use Rattle.chan_tree.proofs.building.+build.Given as goal

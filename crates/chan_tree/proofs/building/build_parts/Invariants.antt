@@ -1,5 +1,5 @@
 use Rattle.std.proofs.Common.{◌≡◌, ◌-◌, ◌≤◌}
-use Rattle.tree_model.specs.Plan.{part_plans}
+use Rattle.rpc_model.specs.Plan.{part_plans}
 use Rattle.chan_tree.specs.Shown.{append_plans}
 use Rattle.chan_tree.proofs.building.build_parts.Given as goal
 

@@ -1,6 +1,6 @@
 -- One copy more.
 use Rattle.std.proofs.Common.{arith, ◌-◌, ◌++◌, ap, ◌∙◌}
-use Rattle.tree_model.specs.Plan.{copies}
+use Rattle.rpc_model.specs.Plan.{copies}
 use Rattle.chan_tree.proofs.Built.{copy-next}
 use Rattle.chan_tree.proofs.building.copied.Goals as goal
 

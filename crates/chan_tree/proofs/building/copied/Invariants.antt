@@ -1,5 +1,5 @@
 use Rattle.std.proofs.Common.{◌≡◌, ◌++◌}
-use Rattle.tree_model.specs.Plan.{copies}
+use Rattle.rpc_model.specs.Plan.{copies}
 use Rattle.chan_tree.proofs.building.copied.Given as goal
 
 abbrev pub invariant-loop-left : goal.invariant-loop-left

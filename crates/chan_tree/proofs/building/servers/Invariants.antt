@@ -1,5 +1,5 @@
 use Rattle.std.proofs.Common.{◌≡◌, ◌++◌, drop}
-use Rattle.tree_model.specs.Plan.{servers_of}
+use Rattle.rpc_model.specs.Plan.{servers_of}
 use Rattle.chan_tree.proofs.building.servers.Given as goal
 
 abbrev pub invariant-loop-tag : goal.invariant-loop-tag

@@ -1,5 +1,5 @@
 use Rattle.std.proofs.Common.{◌≡◌, max, drop}
-use Rattle.tree_model.specs.Faults.{deepest}
+use Rattle.rpc_model.specs.Faults.{deepest}
 use Rattle.chan_tree.specs.Measures.{depth_in, numbers_of}
 use Rattle.chan_tree.proofs.measuring.deepest_sub.Given as goal
 

@@ -1,6 +1,6 @@
 use Rattle.std.proofs.Common.{◌≡◌, drop}
 use Rattle.chan_tree.specs.Measures.{is_some_server}
-use Rattle.tree_model.specs.Plan.{servers_of}
+use Rattle.rpc_model.specs.Plan.{servers_of}
 use Rattle.chan_tree.proofs.measuring.has_server.Given as goal
 
 abbrev pub invariant-loop-tag : goal.invariant-loop-tag

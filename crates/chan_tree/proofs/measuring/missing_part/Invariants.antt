@@ -1,5 +1,5 @@
 use Rattle.std.proofs.Common.{◌≡◌, ◌-◌, ◌≤◌}
-use Rattle.tree_model.specs.Faults.{missing_from}
+use Rattle.rpc_model.specs.Faults.{missing_from}
 use Rattle.chan_tree.proofs.measuring.missing_part.Given as goal
 
 abbrev pub invariant-loop-part : goal.invariant-loop-part

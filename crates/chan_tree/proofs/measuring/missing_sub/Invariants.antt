@@ -1,5 +1,5 @@
 use Rattle.std.proofs.Common.{◌≡◌, drop}
-use Rattle.tree_model.specs.Faults.{first_missing}
+use Rattle.rpc_model.specs.Faults.{first_missing}
 use Rattle.chan_tree.specs.Measures.{missing_in, numbers_of}
 use Rattle.chan_tree.proofs.measuring.missing_sub.Given as goal
 

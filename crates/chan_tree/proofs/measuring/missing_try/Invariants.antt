@@ -1,7 +1,7 @@
 use Rattle.std.proofs.Common.{◌≡◌, ◌+◌, ◌-◌, ◌≤◌}
-use Rattle.tree_model.specs.Faults.{first_missing}
+use Rattle.rpc_model.specs.Faults.{first_missing}
 use Rattle.chan_tree.specs.Measures.{missing_in}
-use Rattle.tree_model.specs.Plan.{tries, tries_from}
+use Rattle.rpc_model.specs.Plan.{tries, tries_from}
 use Rattle.chan_tree.proofs.measuring.missing_try.Given as goal
 
 abbrev pub invariant-loop-at : goal.invariant-loop-at

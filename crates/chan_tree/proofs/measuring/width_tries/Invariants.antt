@@ -1,7 +1,7 @@
 use Rattle.std.proofs.Common.{◌≡◌, ◌+◌, ◌-◌, ◌≤◌, min}
 use Rattle.chan_tree.specs.Measures.{width_in}
 use Rattle.chan_tree.specs.Counting.{total}
-use Rattle.tree_model.specs.Plan.{tries, tries_from}
+use Rattle.rpc_model.specs.Plan.{tries, tries_from}
 use Rattle.chan_tree.proofs.measuring.width_tries.Given as goal
 
 abbrev pub invariant-loop-at : goal.invariant-loop-at

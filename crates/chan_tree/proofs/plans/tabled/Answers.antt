@@ -1,6 +1,6 @@
 -- The table is that of the tree.
 use Rattle.std.proofs.Common.{arith, ◌++◌, ap, ◌∙◌}
-use Rattle.tree_model.proofs.Versions.{width-is}
+use Rattle.rpc_model.proofs.Versions.{width-is}
 use Rattle.chan_tree.specs.Table.{leaf_nodes, leaf_counts, firsts_from}
 use Rattle.chan_tree.proofs.plans.tabled.Goals as goal
 

@@ -1,7 +1,7 @@
 -- The leaves of one tree, and then those of the others.
 use Rattle.std.proofs.Common.{rules, arith, ◌++◌, ap, sym, ◌∙◌}
 use Rattle.std.proofs.lemmas.List.{append_assoc}
-use Rattle.tree_model.specs.Versions as versions
+use Rattle.rpc_model.specs.Versions as versions
 use Rattle.chan_tree.specs.Table as table
 use Rattle.chan_tree.specs.Shown.{plans_of}
 use Rattle.chan_tree.proofs.Tables.{nodes-some, firsts-then}

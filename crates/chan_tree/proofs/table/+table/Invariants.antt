@@ -1,5 +1,5 @@
 use Rattle.std.proofs.Common.{◌+◌, ◌*◌}
-use Rattle.tree_model.specs.Versions.{nodes, nodes_of}
+use Rattle.rpc_model.specs.Versions.{nodes, nodes_of}
 use Rattle.chan_tree.specs.Shown.{plans_of}
 use Rattle.chan_tree.proofs.table.+table.Given as goal
 

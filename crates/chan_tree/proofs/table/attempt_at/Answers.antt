@@ -1,6 +1,6 @@
 -- The leaf whose first attempt stands last up to the place.
 use Rattle.std.proofs.Common.{arith, ◌-◌, length, get_or, Some, ap, sym, ◌∙◌, subst}
-use Rattle.tree_model.specs.declared.meaning.Meaning.TheVariants.{Attempt}
+use Rattle.rpc_model.specs.declared.meaning.Meaning.TheVariants.{Attempt}
 use Rattle.chan_tree.specs.Table as table
 use Rattle.chan_tree.proofs.Tables.{firsts-rise, length-firsts, total-some, first-is, attempt-found}
 use Rattle.chan_tree.proofs.table.attempt_at.Goals as goal

@@ -1,6 +1,6 @@
 -- The answers so far, and those of the mappers that are left.
 use Rattle.std.proofs.Common.{◌≡◌, ◌++◌, drop, length}
-use Rattle.tree_model.specs.Parallel as spec
+use Rattle.rpc_model.specs.Parallel as spec
 use Rattle.fan_out.proofs.asking.ask_all.Given as goal
 
 abbrev pub invariant-loop-map : goal.invariant-loop-map

@@ -1,6 +1,6 @@
 -- What is merged so far goes on to the end that all parts have.
 use Rattle.std.proofs.Common.{◌≡◌, ◌<◌, drop}
-use Rattle.tree_model.specs.Parallel as spec
+use Rattle.rpc_model.specs.Parallel as spec
 use Rattle.fan_out.proofs.folding.fold_parts.Given as goal
 
 abbrev pub invariant-loop-part : goal.invariant-loop-part

@@ -2,10 +2,10 @@
 use Rattle.std.proofs.Common.{◌≡◌, ◌+◌, ◌*◌, ◌^◌, ◌≤◌, nat_eq, ◌++◌, length, drop}
 use Rattle.std.specs.List.{IsDistinct}
 use Rattle.std.specs.Map.{keys_of}
-use Rattle.rpc_model.specs.Fits.{called}
-use Rattle.rpc_model.specs.Told.{Replay, told, told_from}
-use Rattle.rpc_model.specs.Early.{settled, AreSparse}
-use Rattle.rpc_model.specs.Moments.{IsBy}
+use Rattle.rpc_model.specs.Limits.{called}
+use Rattle.sim_run.specs.PlainTold.{Replay, told, told_from}
+use Rattle.sim_run.specs.PlainEarly.{settled, AreSparse}
+use Rattle.sim_run.specs.PlainMoments.{IsBy}
 use Rattle.sim_run.specs.Desk.{IsReady, replay_of}
 use Rattle.sim_run.proofs.replaying.replay.Given as goal
 

@@ -1,6 +1,6 @@
 -- The attempts before this one went out, and those from it on wait nowhere.
 use Rattle.std.proofs.Common.{◌≡◌, ℕ, ◌+◌, ◌-◌, ◌<◌, ◌≤◌, max}
-use Rattle.rpc_model.specs.Machine.{attempts}
+use Rattle.sim_run.specs.PlainMachine.{attempts}
 use Rattle.sim_run.specs.Sends.{posted, IsSilent}
 use Rattle.sim_run.proofs.slots.post.Given as goal
 

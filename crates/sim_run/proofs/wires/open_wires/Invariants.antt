@@ -2,7 +2,7 @@
 use Rattle.std.proofs.Common.{◌≡◌, List, length}
 use Rattle.std.specs.List.{AllByRecursion}
 use Rattle.id_pool.specs.Ranges.{Slot}
-use Rattle.rpc_model.specs.Marks.{Begun}
+use Rattle.sim_run.specs.PlainMarks.{Begun}
 use Rattle.sim_run.specs.Desk.{IsWire}
 use Rattle.sim_run.proofs.wires.open_wires.Given as goal
 

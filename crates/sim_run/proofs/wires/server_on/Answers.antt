@@ -1,6 +1,6 @@
 -- The server of the channel's leaf.
 use Rattle.std.proofs.Common.{slice_get, sym, ◌∙◌, arith}
-use Rattle.rpc_model.specs.Plan.{leaf_plan}
+use Rattle.sim_run.specs.PlainPlan.{leaf_plan}
 use Rattle.sim_run.proofs.Sends.{plan-server, server-bound}
 use Rattle.sim_run.proofs.wires.server_on.Goals as goal
 

@@ -1,7 +1,7 @@
 -- One more direction is read, or the first bad one is found.
 use Rattle.std.proofs.Common.{◌≡◌, ℕ, List, [], ◌∷◌, Bor, sym, ◌∙◌}
 use Rattle.std.proofs.lemmas.List.Elements.{All-push}
-use Rattle.rpc_model.specs.Fits.{IsSpelled}
+use Rattle.rpc_model.specs.Limits.{IsSpelled}
 use Rattle.call_script.proofs.Directed.{directed-next}
 use Rattle.call_script.proofs.reader.setting_lines.direction_words.Goals as goal
 

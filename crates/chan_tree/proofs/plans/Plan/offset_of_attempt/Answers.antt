@@ -1,6 +1,6 @@
 -- An attempt's place is below the number of all attempts.
 use Rattle.std.proofs.Common.{arith, ap, ◌∙◌}
-use Rattle.tree_model.specs.declared.meaning.Meaning.TheVariants.{Attempt}
+use Rattle.rpc_model.specs.declared.meaning.Meaning.TheVariants.{Attempt}
 use Rattle.chan_tree.specs.Table.{total}
 use Rattle.chan_tree.proofs.Tables.{place-short}
 use Rattle.chan_tree.proofs.Offsets.{few_attempts}

@@ -1,0 +1,5 @@
+use Rattle.rpc_model.proofs.Runs.{sends-of}
+use Rattle.rpc_model.proofs.laws.sends_are_of_the_state.Goals as goal
+
+pub returns : goal.returns
+returns g c = λ kinds. sends-of kinds

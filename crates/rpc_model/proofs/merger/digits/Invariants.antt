@@ -1,0 +1,7 @@
+-- What is read so far goes on to the number that all digits spell.
+use Rattle.std.proofs.Common.{◌≡◌, ◌-◌, ◌^◌, ◌≤◌, drop}
+use Rattle.rpc_model.specs.Words.{digits_after}
+use Rattle.rpc_model.proofs.merger.digits.Given as goal
+
+abbrev pub invariant-loop-digit : goal.invariant-loop-digit
+invariant-loop-digit l = record { spelled : digits_after l.number (drop l.digit-index l.text) ≡ digits_after 0 l.text; small : l.number ≤ 2 ^ 64 - 1 }
