@@ -1,6 +1,6 @@
 //! The merging of a parallel call's parts.
 //!
-//! What mappers and mergers are, and how those of a script answer, stands in `tree_model`, whose words this crate hands on.
+//! What mappers and mergers are, and how those of a script answer, stands in `rpc_model`, whose words this crate hands on.
 //! A mapper or merger of a user's own type works through the same traits.
 #![tactic(auto)]
 

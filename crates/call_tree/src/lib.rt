@@ -1,0 +1,11 @@
+//! A whole call: its nodes, its log, and what each event makes it do. It is the plain machine of its log.
+#![tactic(auto)]
+
+mod call;
+mod counts;
+mod effects;
+mod nodes;
+
+pub use call::Call;
+pub use effects::Effects;
+pub use rpc_model::{MarkAt, Send};
