@@ -1,3 +1,4 @@
+ghost use Rattle.std.specs.Option.{option_map};
 ghost use Rattle.std.specs.Prelude.{◌≡◌, ◌-◌, ◌^◌, ◌<◌, ◌≤◌, IsSome, IfSome, IfOk, OnOk, OnErr, Some, true};
 ghost use Rattle.id_pool.specs.Ranges as ranges;
 ghost use Rattle.id_pool.specs.Answers as answers;
@@ -101,6 +102,16 @@ impl<T: Drop> Cell<T> {
     {
         match &self.content {
             Content::Taken(entry) => entry.find(version),
+            _ => None,
+        }
+    }
+
+    /// The value of the range that holds this version, unless it has ended.
+    pub(crate) fn peek(&self, version: u32) -> Option<&T>
+        ensures { option_map (λ v. v.now) result ≡ answers.value_says (ranges.seen version self.now) }
+    {
+        match &self.content {
+            Content::Taken(entry) => entry.peek(version),
             _ => None,
         }
     }

@@ -1,3 +1,4 @@
+ghost use Rattle.std.specs.Option.{option_map};
 ghost use Rattle.std.specs.Prelude.{◌≡◌, ◌-◌, ◌^◌, ◌<◌, ◌≤◌, IfSome, IfNone, IfOk, OnOk, OnErr, ◌+◌, true, false};
 ghost use Rattle.id_pool.specs.Ranges as ranges;
 ghost use Rattle.id_pool.specs.Answers as answers;
@@ -111,6 +112,14 @@ impl<T: Drop> Entry<T> {
             State::Ended => None,
             _ => Some(offset),
         }
+    }
+
+    /// Its value, where it holds the version and hasn't ended.
+    pub(crate) fn peek(&self, version: u32) -> Option<&T>
+        ensures { option_map (λ v. v.now) result ≡ answers.value_says (ranges.seen version (ranges.Taken self.now)) }
+    {
+        self.find(version)?;
+        Some(&self.value)
     }
 
     /// Makes a locked range so wide, unless that is narrower than before or too wide.

@@ -1,3 +1,4 @@
+ghost use Rattle.std.specs.Option.{option_map};
 ghost use Rattle.std.specs.Prelude.{◌≡◌, ℕ, ◌+◌, ◌-◌, ◌^◌, ◌<◌, ◌≤◌, IfOk, IfSome, IsSome, Some, OnOk, OnErr, length, ltb, false, vec_len, vec_capacity};
 ghost use Rattle.std.specs.List.Sorted.{IsPartitionedBy};
 ghost use Rattle.id_pool.specs.Ids as ids;
@@ -88,6 +89,13 @@ impl<T: Drop> Pool<T> {
         ensures bound { IfSome result (λ k. k < 1024) }
     {
         self.slots[self.place(id)?].find(version_of(id))
+    }
+
+    /// The value of the range that holds the id. `None` exactly where the id is gone.
+    pub fn peek(&self, id: u64) -> Option<&T>
+        ensures { option_map (λ v. v.now) result ≡ answers.value_says (ranges.look id self.now) }
+    {
+        self.slots[self.place(id)?].peek(version_of(id))
     }
 
     /// Lends the value of the range that holds the id. `None` exactly where the id is gone.

@@ -1,5 +1,6 @@
 -- The versions of a call's range of ids, after bthread_id: one for each node of its plan, and one for each attempt that its leaves may issue. This project's own choice.
-use Rattle.std.specs.Prelude.{ℕ, zero, suc, ◌+◌, Bool, false, ◌==◌, ◌&&◌, List, [], ◌∷◌, ◌++◌, length, position, slice_get, Option}
+use Rattle.std.specs.Prelude.{ℕ, zero, suc, ◌+◌, Bool, false, ◌==◌, ◌&&◌, List, [], ◌∷◌, ◌++◌, length, position, slice_get, Option, None, Some, if◌then◌else◌}
+use Rattle.rpc_model.specs.declared.chan.LeafChan.{LeafChan}
 use Rattle.rpc_model.specs.declared.meaning.Meaning.{Meaning}
 use Rattle.rpc_model.specs.declared.meaning.Meaning.TheVariants.{Node, Attempt}
 use Rattle.rpc_model.specs.Plan.{Plan, leaf_plan, par_plan, sel_plan, Plans, last_plan, plan_then}
@@ -67,3 +68,20 @@ module _ {M G : Type 0} where
 
   unfoldable pub meaning_of : Plan M G → ℕ → Option Meaning
   meaning_of plan offset = slice_get (versions plan) offset
+
+  -- ---- the leaf of a number
+
+  abbrev pub or_leaf : Option LeafChan → Option LeafChan → Option LeafChan
+  or_leaf None later = later
+  or_leaf (Some leaf) later = Some leaf
+
+  abbrev mutual
+    -- the leaf of this number, where the plan's root has the number before it
+    pub leaf_at : ℕ → Plan M G → ℕ → Option LeafChan
+    leaf_at node (leaf_plan leaf) wanted = if node == wanted then Some leaf else None
+    leaf_at node (par_plan rule plans) wanted = leaf_at_of (node + 1) plans wanted
+    leaf_at node (sel_plan timeout plans) wanted = leaf_at_of (node + 1) plans wanted
+
+    pub leaf_at_of : ℕ → Plans M G → ℕ → Option LeafChan
+    leaf_at_of node last_plan wanted = None
+    leaf_at_of node (plan_then plan plans) wanted = or_leaf (leaf_at node plan wanted) (leaf_at_of (node + nodes plan) plans wanted)

@@ -1,7 +1,8 @@
-pub mod Calls
-pub mod Slots
-pub mod Desk
+pub mod Link
 pub mod Wires
 pub mod Sends
 pub mod Marked
-pub mod Link
+pub mod Acting
+pub mod Calls
+pub mod Slots
+pub mod Desk

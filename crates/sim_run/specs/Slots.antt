@@ -1,20 +1,23 @@
 -- What an event and a join do to the slot of their call: as the plain machine does to the call, in the range that holds its id. This project's own choice.
-use Rattle.std.specs.Prelude.{◌≡◌, ℕ, zero, suc, ◌==◌, List, Option, None, Some, is_some, true}
+use Rattle.std.specs.Prelude.{◌≡◌, ℕ, ◌-◌, ◌==◌, List, Option, None, Some, is_some, true}
 use Rattle.rpc_model.specs.declared.event.End.{End}
 use Rattle.rpc_model.specs.declared.event.Event.{Event}
 use Rattle.rpc_model.specs.declared.told.Told.{Told}
-use Rattle.sim_run.specs.PlainMachine.{end_of}
-use Rattle.sim_run.specs.PlainMarks.{Begun, apply, weave, finish}
-use Rattle.sim_run.specs.PlainTold.{join_end}
+use Rattle.rpc_model.specs.State.{end_of}
+use Rattle.rpc_model.specs.Marks.{Begun, apply, weave, finish}
+use Rattle.rpc_model.specs.Told.{join_end}
 use Rattle.id_pool.specs.Ids.{version_of}
 use Rattle.sim_run.specs.declared.slots.Finished.{Finished}
 use Rattle.rpc_model.specs.declared.event.Event.TheVariants as event
-use Rattle.id_pool.specs.Answers.{find_says}
 use Rattle.sim_run.specs.declared.wire.Reply.{Reply}
 use Rattle.sim_run.specs.declared.turn.Turn.{Turn}
 use Rattle.sim_run.specs.declared.turn.Turn.TheVariants as turn
 use Rattle.sim_run.specs.Link.{Link}
-use Rattle.sim_run.specs.Sends.{issue_by}
+use Rattle.rpc_model.specs.declared.meaning.Meaning.{Meaning}
+use Rattle.rpc_model.specs.declared.meaning.Meaning.TheVariants.{Node, Attempt}
+use Rattle.rpc_model.specs.Versions.{meaning_of}
+use Rattle.timer_core.specs.declared.mark.Mark.{Mark}
+use Rattle.sim_run.specs.Acting.{Acting, turned_by}
 use Rattle.id_pool.specs.Ranges.{changed, look, Range, Slot, Taken, Seen, Nothing, Unlocked, Locked, Free, seen, left_by, with_value}
 
 -- a range whose holder left this value and let it go
@@ -39,9 +42,9 @@ touch_by f (Locked r k waiting) slot = Taken (with_value r (f r.value))
 abbrev pub touch : {T : Type 0} → (T → T) → ℕ → Slot T → Slot T
 touch f version slot = touch_by f (seen version slot) slot
 
--- what comes to a call: an event, or the moment that is reached. The moment of an event sets no mark.
+-- what comes to a call: an event at a moment, or the moment that is reached
 abbrev pub turned : Turn → Begun → Begun
-turned (turn.Event event) b = apply b event 0
+turned (turn.Event event moment) b = apply b event moment
 turned (turn.Due moment) b = weave moment b
 
 -- The id is the first of the range that it finds unlocked, if it finds one.
@@ -78,28 +81,44 @@ join_says reached Nothing = None
 join_says reached (Unlocked r k) = Some ((finish reached r.value).0, join_end (finished reached r.value) (end_of (finished reached r.value).state))
 join_says reached (Locked r k waiting) = None
 
--- what becomes of an attempt is brought to the call by the attempt's id: it is named by the place of its id behind the call's own
-abbrev pub brought_to : Option ℕ → (ℕ → Event) → ℕ → List (Slot Begun) → List (Slot Begun)
-brought_to None what id slots = slots
-brought_to (Some zero) what id slots = slots
-brought_to (Some (suc k)) what id slots = changed (visit (turned (turn.Event (what k))) (version_of id)) id slots
+-- what the version of an id is of, in the plan of the call that it finds
+abbrev pub meant : Seen Begun → Option Meaning
+meant Nothing = None
+meant (Unlocked r k) = meaning_of r.value.plan k
+meant (Locked r k waiting) = meaning_of r.value.plan k
 
-abbrev pub brought : (ℕ → Event) → ℕ → List (Slot Begun) → List (Slot Begun)
-brought what id slots = brought_to (find_says (look id slots)) what id slots
+-- what becomes of an attempt is brought to the call by the attempt's id alone
+abbrev pub brought_to : Option Meaning → (ℕ → ℕ → Event) → ℕ → ℕ → List (Slot Begun) → List (Slot Begun)
+brought_to None what moment id slots = slots
+brought_to (Some (Node node)) what moment id slots = slots
+brought_to (Some (Attempt node attempt)) what moment id slots = changed (visit (turned (turn.Event (what node attempt) moment)) (version_of id)) id slots
 
--- what the wires are then
-abbrev pub brought_wires_to : Option ℕ → (ℕ → Event) → ℕ → List (Slot Begun) → List Link → List Link
-brought_wires_to None what id slots wires = wires
-brought_wires_to (Some zero) what id slots wires = wires
-brought_wires_to (Some (suc k)) what id slots wires = issue_by id (turned (turn.Event (what k))) (look id slots) wires
+abbrev pub brought : (ℕ → ℕ → Event) → ℕ → ℕ → List (Slot Begun) → List (Slot Begun)
+brought what moment id slots = brought_to (meant (look id slots)) what moment id slots
 
-abbrev pub brought_wires : (ℕ → Event) → ℕ → List (Slot Begun) → List Link → List Link
-brought_wires what id slots wires = brought_wires_to (find_says (look id slots)) what id slots wires
+-- what the call that is found does, with the first id of its range
+abbrev pub acts_found : ℕ → (ℕ → Acting → Acting) → Option Begun → List Link → List Mark → List Link × List Mark
+acts_found first f None wires marks = (wires, marks)
+acts_found first f (Some b) wires marks = let a = f first (record { call = b; wires = wires; marks = marks }) in (a.wires, a.marks)
 
--- what a reply says of the attempt of this number
-abbrev pub reply_event : Reply → ℕ → Event
-reply_event reply k = event.Reply 0 k reply.code reply.text
+-- what the wires and the marks are after the call that an id finds unlocked did this
+abbrev pub acts_by : ℕ → (ℕ → Acting → Acting) → Seen Begun → List Link → List Mark → List Link × List Mark
+acts_by id f Nothing wires marks = (wires, marks)
+acts_by id f (Unlocked r k) wires marks = acts_found (id - k) f (Some r.value) wires marks
+acts_by id f (Locked r k waiting) wires marks = (wires, marks)
+
+abbrev pub brings_to : Option Meaning → (ℕ → ℕ → Event) → ℕ → ℕ → List (Slot Begun) → List Link → List Mark → List Link × List Mark
+brings_to None what moment id slots wires marks = (wires, marks)
+brings_to (Some (Node node)) what moment id slots wires marks = (wires, marks)
+brings_to (Some (Attempt node attempt)) what moment id slots wires marks = acts_by id (turned_by (turn.Event (what node attempt) moment)) (look id slots) wires marks
+
+abbrev pub brought_wires : (ℕ → ℕ → Event) → ℕ → ℕ → List (Slot Begun) → List Link → List Mark → List Link × List Mark
+brought_wires what moment id slots wires marks = brings_to (meant (look id slots)) what moment id slots wires marks
+
+-- what a reply says of an attempt
+abbrev pub reply_event : Reply → ℕ → ℕ → Event
+reply_event reply node attempt = event.Reply node attempt reply.code reply.text
 
 -- what the loss of an attempt says of it
-abbrev pub loss_event : ℕ → ℕ → Event
-loss_event code k = event.Lost 0 k code
+abbrev pub loss_event : ℕ → ℕ → ℕ → Event
+loss_event code node attempt = event.Lost node attempt code
