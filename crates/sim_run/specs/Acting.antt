@@ -19,6 +19,9 @@ pub record Acting : Type 0 where
   pub wires : List Link
   pub marks : List Mark
 
+abbrev pub acting : Begun → List Link → List Mark → Acting
+acting call wires marks = record { call = call; wires = wires; marks = marks }
+
 -- an event comes to the call with this first id
 abbrev pub acted : ℕ → Event → ℕ → Acting → Acting
 acted first event moment a =

@@ -1,5 +1,5 @@
 -- What an event and a join do to the slot of their call: as the plain machine does to the call, in the range that holds its id. This project's own choice.
-use Rattle.std.specs.Prelude.{◌≡◌, ℕ, ◌-◌, ◌==◌, List, Option, None, Some, is_some, true}
+use Rattle.std.specs.Prelude.{◌≡◌, ℕ, ◌-◌, ◌^◌, ◌<◌, ◌==◌, List, Option, None, Some, is_some, true}
 use Rattle.rpc_model.specs.declared.event.End.{End}
 use Rattle.rpc_model.specs.declared.event.Event.{Event}
 use Rattle.rpc_model.specs.declared.told.Told.{Told}
@@ -46,6 +46,16 @@ touch f version slot = touch_by f (seen version slot) slot
 abbrev pub turned : Turn → Begun → Begun
 turned (turn.Event event moment) b = apply b event moment
 turned (turn.Due moment) b = weave moment b
+
+-- what comes to a call comes early enough
+abbrev pub IsEarly : Turn → Type 0
+IsEarly (turn.Event event moment) = moment < 2 ^ 60
+IsEarly (turn.Due moment) = moment < 2 ^ 60
+
+-- a join of the call that was found reaches a moment that is early enough
+abbrev pub IsJoinedEarly : ℕ → Option Begun → Type 0
+IsJoinedEarly reached None = Unit {0}
+IsJoinedEarly reached (Some b) = (finish reached b).0 < 2 ^ 60
 
 -- The id is the first of the range that it finds unlocked, if it finds one.
 abbrev pub IsFirst : {T : Type 0} → ℕ → List (Slot T) → Type 0

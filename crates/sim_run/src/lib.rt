@@ -2,6 +2,7 @@
 //! that tells its end; requests go out on wires, and replies come back as frames that find their calls by id alone.
 #![tactic(auto)]
 
+mod acting;
 mod marking;
 mod open_call;
 mod replaying;

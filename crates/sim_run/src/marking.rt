@@ -1,50 +1,37 @@
-//! The marks of a call that begins.
+//! The marks that a call sets, among those of all calls.
 
 ghost use Rattle.std.specs.Prelude.{◌≡◌, ◌^◌, ◌<◌, OnOk};
-ghost use Rattle.rpc_model.specs.Limits.{IsWait};
-ghost use Rattle.sim_run.specs.Marked.{with_mark, with_marks};
+ghost use Rattle.sim_run.specs.Marked.{timed, marked};
 
 use rpc_base::NoMemory;
-use rpc_model::{EBACKUPREQUEST, ERPCTIMEDOUT, LeafChan};
+use rpc_model::{EBACKUPREQUEST, ERPCTIMEDOUT, MarkAt};
 use timer_core::{Mark, Marks};
 
-/// Sets the marks of a call that begins at a moment: its deadline, and its backup request.
-pub(crate) fn set_marks(
-    marks: &mut Marks,
-    first: u64,
-    leaf: &LeafChan,
-    moment: u64,
-) -> Result<(), NoMemory>
-    requires timeout { IsWait leaf.now.timeout }
-    requires backup { IsWait leaf.now.backup }
-    requires early { moment < 2 ^ 60 }
-    ensures { OnOk result (marks.new ≡ with_marks first leaf.now moment marks.old) }
+/// Sets the marks of a call with this first id, each under the id of its node.
+pub(crate) fn set_marks(marks: &mut Marks, first: u64, set: &[MarkAt]) -> Result<(), NoMemory>
+    requires { first < 2 ^ 63 }
+    ensures { OnOk result (marks.new ≡ marked first set.now marks.old) }
 {
-    set_mark(marks, first, leaf.timeout, moment, 0, ERPCTIMEDOUT)?;
-    set_mark(marks, first, leaf.backup, moment, 1, EBACKUPREQUEST)?;
+    for mark in set {
+        marks.add(timed(first, *mark))?;
+    }
     Ok(())
 }
 
-/// Sets a mark so many milliseconds ahead, where there is a wait.
-fn set_mark(
-    marks: &mut Marks,
-    first: u64,
-    wait: Option<u32>,
-    moment: u64,
-    rank: u32,
-    code: u32,
-) -> Result<(), NoMemory>
-    requires wait { IsWait wait }
-    requires early { moment < 2 ^ 60 }
-    ensures { OnOk result (marks.new ≡ with_mark first moment wait rank code marks.old) }
+/// A mark of a call with this first id: at one moment a node's deadline comes before its backup request.
+fn timed(first: u64, mark: MarkAt) -> Mark
+    requires { first < 2 ^ 63 }
+    ensures { result ≡ timed first mark }
 {
-    let Some(wait) = wait else {
-        return Ok(());
-    };
-    marks.add(Mark {
-        moment: moment + u64::from(wait),
-        rank,
-        id: first,
-        code,
-    })
+    let rank = 2 * u64::from(mark.node) + u64::from(mark.backup);
+    Mark {
+        moment: mark.moment,
+        rank: rank.min(u64::from(u32::MAX)) as u32,
+        id: first + u64::from(mark.node),
+        code: if mark.backup {
+            EBACKUPREQUEST
+        } else {
+            ERPCTIMEDOUT
+        },
+    }
 }

@@ -1,282 +1,183 @@
 //! A call that has begun and was not told.
 
-ghost use Rattle.std.specs.Prelude.{◌≡◌, ℕ, ◌+◌, ◌^◌, ◌<◌, ◌≤◌, Option, None, Some, is_some, IfOk};
-ghost use Rattle.sim_run.specs.PlainPlan.{leaf_plan};
-ghost use Rattle.sim_run.specs.Sends.{HasServer, server_in};
-ghost use Rattle.sim_run.specs.PlainMachine.{end_of, attempts};
-ghost use Rattle.sim_run.specs.PlainTold.{join_end};
-ghost use Rattle.sim_run.specs.PlainMarks.{begin, apply, weave, finish};
-ghost use Rattle.rpc_model.specs.Limits.{IsWait};
-ghost use Rattle.call_leaf.specs.Keeps.{event_of};
-ghost use Rattle.sim_run.specs.Calls.{due_after, stepped, taken_due, finished_once};
-ghost use Rattle.sim_run.specs.Slots.{turned};
+ghost use Rattle.std.specs.Prelude.{◌≡◌, ◌^◌, ◌<◌, is_some, IfOk, OnOk};
+ghost use Rattle.std.specs.Arc.{arc_value};
+ghost use Rattle.rpc_model.specs.Kinds.{script_kinds};
+ghost use Rattle.rpc_model.specs.Machine.{start, step};
+ghost use Rattle.rpc_model.specs.State.{end_of};
+ghost use Rattle.rpc_model.specs.Told.{join_end};
+ghost use Rattle.rpc_model.specs.Marks.{begin, apply, set_mark, set_all, is_before as before_test, rank as rank_of, mark_event};
+ghost use Rattle.call_tree.specs.Running.{IsEffects};
+ghost use Rattle.sim_run.specs.Calls.{due_taken, open_taken};
 
-use crate::turn::Turn;
-use crate::wires::server_of;
-use call_leaf::{Leaf, LeafEvent, LeafStep};
+use call_tree::{Call, Effects};
+use chan_tree::Plan;
 use rpc_base::{Bytes, NoMemory};
-use rpc_model::{ECANCELED, End, Event, LeafChan, Told};
+use rpc_model::{Event, MapKind, MarkAt, MergeKind, Origin, Told};
 use std::alloc::Global;
 use std::marker::Model;
+use std::sync::Arc;
 
-/// A call on a plain channel: its attempts, its end, and its marks that weren't taken.
+/// A call on a channel of any kind, and its marks that weren't taken, in the order in which they come.
 #[derive(Drop)]
 pub(crate) struct OpenCall {
     alloc: Global,
-    call: u32,
-    chan: LeafChan,
-    request: Bytes,
-    leaf: Leaf,
-    end: Option<End>,
-    deadline: Option<u64>,
-    backup: Option<u64>,
+    call: Call<MapKind, MergeKind>,
+    waiting: Vec<MarkAt>,
 }
 
 impl Model for OpenCall {
-    ghost use Rattle.std.specs.Prelude.{◌≡◌, ◌<◌, ◌^◌};
-    ghost use Rattle.sim_run.specs.PlainMarks.{Begun};
-    ghost use Rattle.sim_run.specs.Calls.{begun_of, IsOpen};
+    ghost use Rattle.rpc_model.specs.Marks.{Begun};
+    ghost use Rattle.sim_run.specs.Calls.{begun_of};
 
     ghost Value = { Begun };
 
-    ghost view = { λ c. begun_of c.call c.chan c.request c.leaf c.end c.deadline c.backup };
+    ghost use Rattle.std.specs.Coded.{codes};
+    ghost use Rattle.chan_tree.specs.Code.{plan_code};
+    ghost use Rattle.call_tree.specs.Code.{state_code};
+    ghost use Rattle.rpc_model.specs.declared.kinds.MapKind.{MapKind};
+    ghost use Rattle.rpc_model.specs.declared.kinds.MergeKind.{MergeKind};
 
-    ghost invariant = { λ c. (c.leaf.retry ≡ c.chan.retry) × (c.chan.retry < 2 ^ 31) × IsOpen c.end c.leaf.outcome };
+    ghost coded = { Prim.hlevel (codes, plan_code {M = MapKind} {G = MergeKind} (Prim.hlevel (codes)), state_code {M = MapKind} {G = MergeKind} (Prim.hlevel (codes, plan_code {M = MapKind} {G = MergeKind} (Prim.hlevel (codes))))) };
+
+    ghost view = { λ c. begun_of c.call c.waiting.items };
 }
 
 impl OpenCall {
     pub(crate) fn begin(
         alloc: Global,
         call: u32,
-        chan: LeafChan,
+        plan: Arc<Plan<MapKind, MergeKind>>,
         request: Bytes,
         moment: u64,
-    ) -> OpenCall
-        requires few { chan.retry < 2 ^ 31 }
-        requires wait { IsWait chan.timeout }
-        requires backup { IsWait chan.backup }
+    ) -> Result<(OpenCall, Effects), NoMemory>
         requires early { moment < 2 ^ 60 }
-        ensures { result ≡ begin call (leaf_plan chan) request moment }
+        ensures begun { IfOk result (λ r. r.0 ≡ begin call (arc_value plan) request moment) }
+        ensures effects { IfOk result (λ r. IsEffects (start script_kinds (arc_value plan) call request moment) r.1) }
     {
-        let leaf = Leaf::begin(chan.retry);
-        let deadline = due_after(moment, chan.timeout);
-        let backup = due_after(moment, chan.backup);
-        OpenCall {
-            alloc,
-            call,
-            chan,
-            request,
-            leaf,
-            end: None,
-            deadline,
-            backup,
-        }
+        let (call, effects) = Call::begin(alloc, plan, call, request, moment)?;
+        let mut waiting = Vec::new(alloc);
+        set_marks(&mut waiting, effects.marks.list())?;
+        Ok((
+            OpenCall {
+                alloc,
+                call,
+                waiting,
+            },
+            effects,
+        ))
     }
 
     pub(crate) fn number(&self) -> u32
         ensures { result ≡ self.now.call }
     {
-        self.call
+        self.call.number()
+    }
+
+    pub(crate) fn plan(&self) -> &Plan<MapKind, MergeKind>
+        ensures { result.now ≡ self.now.plan }
+    {
+        self.call.plan()
     }
 
     /// Whether it has an end.
     pub(crate) fn is_over(&self) -> bool
         ensures { result ≡ is_some (end_of self.now.state) }
     {
-        self.end.is_some()
+        self.call.end().is_some()
     }
 
     /// What a join of it tells.
     pub(crate) fn into_told(self) -> Told
         ensures { result ≡ join_end self (end_of self.state) }
     {
-        let OpenCall {
-            call,
-            leaf,
-            end,
-            ..
-        } = self;
-        match end {
+        let call = self.call.number();
+        let attempts = self.call.attempts();
+        match self.call.into_end() {
             None => Told::Unended(call),
-            Some(end) => Told::Ended(call, end, leaf.issued() as u32),
+            Some(end) => Told::Ended(call, end, attempts),
         }
     }
 
-    /// How many attempts it has issued.
-    pub(crate) fn issued(&self) -> u32
-        ensures { result ≡ attempts self.now.state }
+    /// Applies an event at a moment. A replay doesn't look at where an event came from.
+    pub(crate) fn apply(&mut self, event: Event, moment: u64) -> Result<Effects, NoMemory>
+        requires early { moment < 2 ^ 60 }
+        ensures applied { OnOk result (self.new ≡ apply self.old event moment) }
+        ensures effects { IfOk result (λ effects. IsEffects (step script_kinds self.old.call self.old.state event moment) effects) }
     {
-        self.leaf.issued() as u32
+        let from = Origin::Lane { lane: 0, place: 0 };
+        let effects = self.call.apply(self.alloc, event, moment, from)?;
+        set_marks(&mut self.waiting, effects.marks.list())?;
+        Ok(effects)
     }
 
-    /// The server of an attempt.
-    pub(crate) fn server(&self, attempt: u32) -> u32
-        requires { HasServer self.now.plan }
-        ensures { result ≡ server_in self.now.plan self.now.call attempt }
+    /// Takes out the mark that comes first, where it is due.
+    pub(crate) fn take_due(&mut self, moment: u64) -> Option<MarkAt>
+        ensures { (result, self.new) ≡ due_taken moment self.old }
     {
-        server_of(&self.chan, self.call, attempt)
-    }
-
-    /// A copy of its request.
-    pub(crate) fn request(&self) -> Result<Bytes, NoMemory>
-        ensures { IfOk result (λ request. request ≡ self.now.request) }
-    {
-        Ok(Bytes::of(Vec::from_slice(self.alloc, self.request.list())?))
-    }
-
-    /// Takes what comes to it.
-    pub(crate) fn take(&mut self, turn: Turn)
-        ensures { self.new ≡ turned turn self.old }
-    {
-        match turn {
-            Turn::Event(event) => self.apply(event),
-            Turn::Due(moment) => self.weave(moment),
+        let first = *self.waiting.first()?;
+        if first.moment > moment {
+            return None;
         }
+        self.waiting.remove(0);
+        Some(first)
     }
 
-    /// Takes the marks that are due.
-    fn weave(&mut self, moment: u64)
-        ensures { self.new ≡ weave moment self.old }
+    /// Takes out the mark that comes first, where the call has no end.
+    pub(crate) fn take_open(&mut self) -> Option<MarkAt>
+        ensures { (result, self.new) ≡ open_taken self.old }
     {
-        if self.take_due(moment) {
-            self.take_due(moment);
+        if self.is_over() {
+            return None;
         }
-    }
-
-    /// Takes the mark that comes first, where it is due, and answers whether it was.
-    fn take_due(&mut self, moment: u64) -> bool
-        ensures { (result, self.new) ≡ taken_due moment self.old }
-    {
-        match (self.deadline, self.backup) {
-            (Some(deadline), None) if deadline <= moment => {
-                self.deadline = None;
-                self.apply(Event::Deadline { node: 0 });
-                true
-            }
-            (Some(deadline), Some(backup)) if deadline <= backup && deadline <= moment => {
-                self.deadline = None;
-                self.apply(Event::Deadline { node: 0 });
-                true
-            }
-            (None, Some(backup)) if backup <= moment => {
-                self.backup = None;
-                self.apply(Event::Backup { node: 0 });
-                true
-            }
-            (Some(deadline), Some(backup)) if backup < deadline && backup <= moment => {
-                self.backup = None;
-                self.apply(Event::Backup { node: 0 });
-                true
-            }
-            _ => false,
-        }
-    }
-
-    /// Takes the marks until there is an end or none is left, and answers the moment reached.
-    pub(crate) fn finish(&mut self, reached: u64) -> u64
-        ensures moment { result ≡ (finish reached self.old).0 }
-        ensures call { self.new ≡ (finish reached self.old).1 }
-    {
-        let reached = self.finish_once(reached);
-        self.finish_once(reached)
-    }
-
-    /// Takes the mark that comes first, where there is no end yet.
-    fn finish_once(&mut self, reached: u64) -> u64
-        ensures { (result, self.new) ≡ finished_once reached self.old }
-    {
-        if self.end.is_some() {
-            return reached;
-        }
-        match (self.deadline, self.backup) {
-            (None, None) => reached,
-            (Some(deadline), None) => {
-                self.deadline = None;
-                self.apply(Event::Deadline { node: 0 });
-                reached.max(deadline)
-            }
-            (None, Some(backup)) => {
-                self.backup = None;
-                self.apply(Event::Backup { node: 0 });
-                reached.max(backup)
-            }
-            (Some(deadline), Some(backup)) => {
-                if deadline <= backup {
-                    self.deadline = None;
-                    self.apply(Event::Deadline { node: 0 });
-                    reached.max(deadline)
-                } else {
-                    self.backup = None;
-                    self.apply(Event::Backup { node: 0 });
-                    reached.max(backup)
-                }
-            }
-        }
-    }
-
-    /// Takes an event, at whatever moment: it sets no mark.
-    fn apply(&mut self, event: Event)
-        ensures { (moment : ℕ) → self.new ≡ apply self.old event moment }
-    {
-        if self.end.is_some() {
-            return;
-        }
-        match event {
-            Event::Reply {
-                node: 0,
-                attempt,
-                code: 0,
-                text,
-            } => self.step(LeafEvent::Good(attempt), text),
-            Event::Reply {
-                node: 0,
-                attempt,
-                code,
-                text,
-            } => self.step(LeafEvent::Fail(attempt, code), text),
-            Event::Lost {
-                node: 0,
-                attempt,
-                code,
-            } => {
-                let none = Bytes::of(Vec::new(self.alloc));
-                self.step(LeafEvent::Fail(attempt, code), none);
-            }
-            Event::Backup { node: 0 } => {
-                let none = Bytes::of(Vec::new(self.alloc));
-                self.step(LeafEvent::Backup, none);
-            }
-            Event::Deadline { node: 0 } => {
-                let none = Bytes::of(Vec::new(self.alloc));
-                self.step(LeafEvent::Deadline, none);
-            }
-            Event::Cancel => self.end = Some(End::Bad(ECANCELED)),
-            _ => {}
-        }
-    }
-
-    /// Gives the leaf an event. The text is that of a reply.
-    fn step(&mut self, event: LeafEvent, text: Bytes)
-        requires { end_of self.old.state ≡ None }
-        ensures { self.new ≡ stepped self.old (event_of event text) }
-    {
-        match self.leaf.apply(event) {
-            LeafStep::Won(_) => self.end = Some(End::Good(text)),
-            LeafStep::Ended(code) => self.end = Some(End::Bad(code)),
-            LeafStep::Issue(_) => {}
-            LeafStep::Nothing => {}
-        }
+        let first = *self.waiting.first()?;
+        self.waiting.remove(0);
+        Some(first)
     }
 }
 
-/// The moment of a mark that is set so many milliseconds ahead.
-fn due_after(moment: u64, wait: Option<u32>) -> Option<u64>
-    requires wait { IsWait wait }
-    requires early { moment < 2 ^ 60 }
-    ensures { result ≡ due_after moment wait }
+/// What a mark brings its call.
+pub(crate) fn mark_event(mark: MarkAt) -> Event
+    ensures { result ≡ mark_event mark.node mark.backup }
 {
-    match wait {
-        None => None,
-        Some(wait) => Some(moment + u64::from(wait)),
+    if mark.backup {
+        Event::Backup { node: mark.node }
+    } else {
+        Event::Deadline { node: mark.node }
     }
+}
+
+/// Sets marks, one after the other.
+fn set_marks(waiting: &mut Vec<MarkAt>, marks: &[MarkAt]) -> Result<(), NoMemory>
+    ensures { OnOk result (waiting.new.items ≡ set_all marks.now waiting.old.items) }
+{
+    for mark in marks {
+        set_mark(waiting, *mark)?;
+    }
+    Ok(())
+}
+
+/// Sets a mark behind those that don't come after it.
+fn set_mark(waiting: &mut Vec<MarkAt>, mark: MarkAt) -> Result<(), NoMemory>
+    ensures { OnOk result (waiting.new.items ≡ set_mark mark waiting.old.items) }
+{
+    let place = waiting.iter().position(|other| is_before(mark, *other));
+    match place {
+        Some(at) => waiting.insert(at, mark)?,
+        None => waiting.push(mark)?,
+    }
+    Ok(())
+}
+
+/// Whether a mark comes before another one: by its moment, and at one moment by its node, where the deadline comes first.
+fn is_before(mark: MarkAt, other: MarkAt) -> bool
+    ensures { result ≡ before_test mark other }
+{
+    mark.moment < other.moment || (mark.moment == other.moment && rank(mark) < rank(other))
+}
+
+fn rank(mark: MarkAt) -> u64
+    ensures { result ≡ rank_of mark }
+{
+    2 * u64::from(mark.node) + u64::from(mark.backup)
 }

@@ -1,5 +1,5 @@
-ghost use Rattle.std.specs.Prelude.{◌≡◌, ◌^◌, ◌<◌, ◌≤◌, [], ◌∷◌, ◌++◌, false, length, IfOk, IfSome, OnOk, OnErr};
-ghost use Rattle.link_core.specs.Outstanding.{is_outstanding, without};
+ghost use Rattle.std.specs.Prelude.{◌≡◌, ◌^◌, ◌<◌, ◌≤◌, [], length, IfOk, IfSome, OnOk, OnErr};
+ghost use Rattle.sim_run.specs.Wires.{sent, received};
 ghost use Rattle.sim_run.specs.Link.{reply_frame, reply_in};
 ghost use Rattle.prpc_frames.specs.Stream.Spelling.{IsFitting, IsTyped};
 
@@ -49,12 +49,12 @@ impl Wire {
         })
     }
 
-    /// Sends a request under the id of its attempt, which waits for a reply from then on.
+    /// Sends a request under the id of its attempt, which waits for a reply from then on, behind all others.
     pub(crate) fn send(&mut self, id: u64, call: u32, payload: Bytes) -> Result<(), NoMemory>
-        requires { is_outstanding id self.old.waiting ≡ false }
-        ensures { OnOk result (self.new ≡ record { out = self.old.out ++ record { id = id; payload = payload } ∷ []; waiting = self.old.waiting ++ (id, call) ∷ [] }) }
+        ensures { OnOk result (self.new ≡ sent id call payload self.old) }
     {
         self.out.send(id, payload)?;
+        self.outstanding.remove(id);
         self.outstanding.add(id, call)?;
         Ok(())
     }
@@ -65,7 +65,7 @@ impl Wire {
         requires code { code ≤ 65535 }
         requires text { length text.now ≤ 60000 }
         ensures reply { IfOk result (λ r. r ≡ record { id = id; code = code; text = text.now }) }
-        ensures wire { OnOk result (self.new ≡ record self.old { waiting = without id self.old.waiting }) }
+        ensures wire { OnOk result (self.new ≡ received id self.old) }
     {
         let text = Bytes::of(Vec::from_slice(self.alloc, text.list())?);
         let sent = frame_of(self.alloc, Reply { id, code, text });
@@ -78,7 +78,7 @@ impl Wire {
 
     /// An attempt is lost: its id doesn't wait any more.
     pub(crate) fn forget(&mut self, id: u64)
-        ensures { self.new ≡ record self.old { waiting = without id self.old.waiting } }
+        ensures { self.new ≡ received id self.old }
     {
         self.outstanding.remove(id);
     }

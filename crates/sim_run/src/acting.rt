@@ -1,0 +1,130 @@
+//! A call that acts: what comes to it, what it sends on the wires, and the marks that it sets.
+
+ghost use Rattle.std.specs.Prelude.{◌≡◌, ◌^◌, ◌<◌, IfOk, OnOk};
+ghost use Rattle.rpc_model.specs.Marks.{finish as finish_of};
+ghost use Rattle.sim_run.specs.Acting.{acting, acted, woven, finished_by, turned_by};
+ghost use Rattle.sim_run.specs.Sends.{posted, posted_one};
+ghost use Rattle.sim_run.specs.Slots.{IsEarly};
+
+use crate::marking::set_marks;
+use crate::open_call::{OpenCall, mark_event};
+use crate::turn::Turn;
+use crate::wire::Wire;
+use crate::wires::send;
+use rpc_base::{List, NoMemory};
+use rpc_model::{Event, Send};
+use timer_core::Marks;
+
+/// Gives a call what comes to it. The first id is the call's own.
+pub(crate) fn turn_call(
+    call: &mut OpenCall,
+    wires: &mut Vec<Wire>,
+    marks: &mut Marks,
+    first: u64,
+    turn: Turn,
+) -> Result<(), NoMemory>
+    requires low { first < 2 ^ 63 }
+    requires early { IsEarly turn }
+    ensures { OnOk result (acting call.new wires.new.items marks.new ≡ turned_by turn first (acting call.old wires.old.items marks.old)) }
+{
+    match turn {
+        Turn::Event(event, moment) => act(call, wires, marks, first, event, moment),
+        Turn::Due(moment) => weave(call, wires, marks, first, moment),
+    }
+}
+
+/// An event comes to a call: the requests that it sends go out, and the marks that it sets are added.
+fn act(
+    call: &mut OpenCall,
+    wires: &mut Vec<Wire>,
+    marks: &mut Marks,
+    first: u64,
+    event: Event,
+    moment: u64,
+) -> Result<(), NoMemory>
+    requires low { first < 2 ^ 63 }
+    requires early { moment < 2 ^ 60 }
+    ensures { OnOk result (acting call.new wires.new.items marks.new ≡ acted first event moment (acting call.old wires.old.items marks.old)) }
+{
+    let effects = call.apply(event, moment)?;
+    post(wires, call, first, effects.sends)?;
+    set_marks(marks, first, effects.marks.list())?;
+    Ok(())
+}
+
+/// A call takes its marks that are due.
+fn weave(
+    call: &mut OpenCall,
+    wires: &mut Vec<Wire>,
+    marks: &mut Marks,
+    first: u64,
+    moment: u64,
+) -> Result<(), NoMemory>
+    requires low { first < 2 ^ 63 }
+    requires early { moment < 2 ^ 60 }
+    ensures { OnOk result (acting call.new wires.new.items marks.new ≡ woven first moment (acting call.old wires.old.items marks.old)) }
+{
+    'taken: while let Some(mark) = call.take_due(moment) {
+        act(call, wires, marks, first, mark_event(mark), mark.moment)?;
+    }
+    Ok(())
+}
+
+/// A call takes its marks until it has an end or none is left; the moment reached.
+pub(crate) fn finish_call(
+    call: &mut OpenCall,
+    wires: &mut Vec<Wire>,
+    marks: &mut Marks,
+    first: u64,
+    reached: u64,
+) -> Result<u64, NoMemory>
+    requires low { first < 2 ^ 63 }
+    requires early { (finish_of reached call.old).0 < 2 ^ 60 }
+    ensures moment { IfOk result (λ moment. moment ≡ (finished_by first reached (acting call.old wires.old.items marks.old)).0) }
+    ensures call { OnOk result (acting call.new wires.new.items marks.new ≡ (finished_by first reached (acting call.old wires.old.items marks.old)).1) }
+{
+    let mut reached = reached;
+    'taken: while let Some(mark) = call.take_open() {
+        reached = reached.max(mark.moment);
+        act(call, wires, marks, first, mark_event(mark), mark.moment)?;
+    }
+    Ok(reached)
+}
+
+/// Sends the requests of a call: each under the id of its attempt, to its own server.
+pub(crate) fn post(
+    wires: &mut Vec<Wire>,
+    call: &OpenCall,
+    first: u64,
+    sends: List<Send>,
+) -> Result<(), NoMemory>
+    requires { first < 2 ^ 63 }
+    ensures { OnOk result (wires.new.items ≡ posted first call.now.plan call.now.call sends wires.old.items) }
+{
+    let number = call.number();
+    for request in sends.into_vec() {
+        post_one(wires, call, number, first, request)?;
+    }
+    Ok(())
+}
+
+/// Sends a request under the id of its attempt, to its server.
+fn post_one(
+    wires: &mut Vec<Wire>,
+    call: &OpenCall,
+    number: u32,
+    first: u64,
+    request: Send,
+) -> Result<(), NoMemory>
+    requires { first < 2 ^ 63 }
+    ensures { OnOk result (wires.new.items ≡ posted_one first call.now.plan number request wires.old.items) }
+{
+    let Some(offset) = call
+        .plan()
+        .offset_of_attempt(request.node, request.attempt)
+    else {
+        return Ok(());
+    };
+    let id = first + u64::from(offset);
+    send(wires, request.server, id, number, request.payload)
+}
