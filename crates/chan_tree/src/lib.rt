@@ -11,10 +11,11 @@ mod table;
 mod tree;
 
 pub use measuring::Measure;
+pub use places::last_up_to;
 pub use planning::{PlanFault, plan};
 pub use plans::Plan;
 pub use sound::are_sound;
-pub use tree::{PlanNode, PlanTree, Rule};
+pub use tree::{PlanNode, PlanTree, Rule, leaf_copy};
 pub use tree_model::{Chan, ParChan, PartChan, SelChan, Sub, Tag};
 
 #[cfg(test)]

@@ -71,6 +71,14 @@ pub(crate) fn tabled<M: Drop, G: Drop>(
 }
 
 impl<M, G> Plan<M, G> {
+    /// The tree of its nodes.
+    pub fn tree(&self) -> &PlanTree<M, G>
+        ensures value { result.now ≡ self.now }
+        ensures narrow { versions.width self.now ≤ 1024 }
+    {
+        &self.tree
+    }
+
     /// How many ids the range of a call has.
     pub fn width(&self) -> u32
         ensures { result ≡ versions.width self.now }
