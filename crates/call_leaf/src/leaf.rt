@@ -52,6 +52,20 @@ impl Leaf {
         }
     }
 
+    /// A copy of it, by which an event may be tried.
+    pub fn copy(&self) -> Leaf
+        ensures { result ≡ self.now }
+    {
+        Leaf {
+            retry: self.retry,
+            last: self.last,
+            current: self.current,
+            older: self.older,
+            backed_up: self.backed_up,
+            outcome: self.outcome,
+        }
+    }
+
     /// Takes an event and answers what it made the leaf do. After an end it answers `Nothing`.
     pub fn apply(&mut self, event: LeafEvent) -> LeafStep
         ensures leaf { Steps self.old self.new event }

@@ -3,6 +3,7 @@ pub mod Widths
 pub mod Turns
 pub mod Kids
 pub mod Built
+pub mod Copies
 mod Rising
 pub mod Tables
 pub mod Offsets

@@ -8,7 +8,7 @@ ghost use Rattle.chan_tree.specs.Measures.{numbers_of};
 ghost use Rattle.chan_tree.specs.Shown.{append_plans, rule_of as rule_shown, IsPlanOf, ArePlansOf};
 
 use crate::measuring::try_at;
-use crate::tree::{PlanNode, PlanTree, Rule};
+use crate::tree::{PlanNode, PlanTree, Rule, leaf_copy};
 use rpc_base::{List, NoMemory};
 use rpc_model::LeafChan;
 use std::alloc::Global;
@@ -104,19 +104,6 @@ fn build_tries<M: Copy, G: Copy>(
         at += 1;
     }
     Ok(kids)
-}
-
-fn leaf_copy(alloc: Global, leaf: &LeafChan) -> Result<LeafChan, NoMemory>
-    ensures { IfOk result (λ copy. copy ≡ leaf.now) }
-{
-    let mut servers = Vec::new(alloc);
-    servers.extend_from_slice(leaf.servers.list())?;
-    Ok(LeafChan {
-        servers: List::of(servers),
-        retry: leaf.retry,
-        backup: leaf.backup,
-        timeout: leaf.timeout,
-    })
 }
 
 fn rule_of<M: Copy, G: Copy>(alloc: Global, par: &ParChan<M, G>) -> Result<Rule<M, G>, NoMemory>

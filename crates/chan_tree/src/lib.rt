@@ -2,6 +2,7 @@
 #![tactic(auto)]
 
 mod building;
+mod leaves;
 mod measuring;
 mod places;
 mod planning;
@@ -11,10 +12,11 @@ mod table;
 mod tree;
 
 pub use measuring::Measure;
+pub use places::last_up_to;
 pub use planning::{PlanFault, plan};
 pub use plans::Plan;
 pub use sound::are_sound;
-pub use tree::{PlanNode, PlanTree, Rule};
+pub use tree::{PlanNode, PlanTree, Rule, leaf_copy};
 pub use rpc_model::{Chan, ParChan, PartChan, SelChan, Sub, Tag};
 
 #[cfg(test)]

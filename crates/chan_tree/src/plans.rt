@@ -1,13 +1,15 @@
+ghost use Rattle.std.specs.Option.{option_map};
 ghost use Rattle.std.specs.Prelude.{◌≡◌, ℕ, ◌<◌, ◌≤◌, Option, None, Some, IfOk};
 ghost use Rattle.rpc_model.specs.Versions as versions;
 ghost use Rattle.rpc_model.specs.declared.meaning.Meaning.TheVariants as meaning;
 
 use crate::table::{Table, add_tree, attempt_at, place_of};
+use crate::leaves::leaf_in;
 use crate::tree::PlanTree;
 use rpc_base::NoMemory;
 use std::alloc::Global;
 use std::marker::Model;
-use rpc_model::Meaning;
+use rpc_model::{LeafChan, Meaning};
 
 /// The plan of a call. Its range of ids has one version for each node and one for each attempt that a leaf may issue.
 #[derive(Drop)]
@@ -71,6 +73,14 @@ pub(crate) fn tabled<M: Drop, G: Drop>(
 }
 
 impl<M, G> Plan<M, G> {
+    /// The tree of its nodes.
+    pub fn tree(&self) -> &PlanTree<M, G>
+        ensures value { result.now ≡ self.now }
+        ensures narrow { versions.width self.now ≤ 1024 }
+    {
+        &self.tree
+    }
+
     /// How many ids the range of a call has.
     pub fn width(&self) -> u32
         ensures { result ≡ versions.width self.now }
@@ -107,6 +117,14 @@ impl<M, G> Plan<M, G> {
             attempt,
         )?;
         Some(self.nodes + place)
+    }
+
+    /// The leaf of this number. None exactly where the node of this number isn't a leaf.
+    pub fn leaf(&self, node: u32) -> Option<&LeafChan>
+        ensures { option_map (λ l. l.now) result ≡ versions.leaf_at 0 self.now node }
+    {
+        let mut from = 0;
+        leaf_in(&self.tree, &mut from, node)
     }
 
     /// What the version at an offset is of: none exactly where the offset isn't below the width.

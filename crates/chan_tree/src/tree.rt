@@ -1,5 +1,10 @@
-use rpc_base::List;
+ghost use Rattle.std.specs.Prelude.{◌≡◌, ◌^◌, ◌<◌, IfOk};
+ghost use Rattle.rpc_model.specs.Versions as versions;
+ghost use Rattle.chan_tree.specs.Shown.{plan_of, plans_of, rule_of};
+
+use rpc_base::{List, NoMemory};
 use rpc_model::LeafChan;
+use std::alloc::Global;
 use std::marker::Model;
 
 /// The tree of a plan's nodes. It is seen as the plan itself.
@@ -56,4 +61,110 @@ impl<M, G> Model for PlanTree<M, G> {
     ghost use Rattle.chan_tree.specs.Falls.{falls};
 
     ghost size_decreases = { λ a h. falls a.node };
+}
+
+impl<M, G> PlanTree<M, G> {
+    /// Its root, with the trees below it.
+    pub fn node(&self) -> &PlanNode<M, G>
+        ensures { plan_of result.now ≡ self.now }
+    {
+        &self.node
+    }
+
+    /// How many nodes there are.
+    #[cycle(count)]
+    pub fn nodes(&self) -> u32
+        requires few { versions.nodes self.now < 2 ^ 31 }
+        ensures { result ≡ versions.nodes self.now }
+    {
+        match &self.node {
+            PlanNode::Leaf(_) => 1,
+            PlanNode::Par(_, plans) => 1 + nodes_of(plans.as_slice()),
+            PlanNode::Sel(_, plans) => 1 + nodes_of(plans.as_slice()),
+        }
+    }
+}
+
+/// How many nodes trees have together.
+#[cycle(count)]
+fn nodes_of<M, G>(trees: &[PlanTree<M, G>]) -> u32
+    requires few { versions.nodes_of (plans_of trees.now) < 2 ^ 31 }
+    ensures { result ≡ versions.nodes_of (plans_of trees.now) }
+{
+    let mut count = 0u32;
+    for tree in trees {
+        count += tree.nodes();
+    }
+    count
+}
+
+impl<M: Copy, G: Copy> PlanTree<M, G> {
+    /// A copy of the whole tree.
+    #[cycle(copy)]
+    pub fn copy(&self, alloc: Global) -> Result<PlanTree<M, G>, NoMemory>
+        ensures { IfOk result (λ copy. copy ≡ self.now) }
+    {
+        match &self.node {
+            PlanNode::Leaf(leaf) => {
+                let leaf = leaf_copy(alloc, leaf)?;
+                Ok(PlanTree {
+                    node: PlanNode::Leaf(leaf),
+                })
+            }
+            PlanNode::Par(rule, plans) => {
+                let rule = rule_copy(alloc, rule)?;
+                let copies = copies(alloc, plans.as_slice())?;
+                Ok(PlanTree {
+                    node: PlanNode::Par(rule, copies),
+                })
+            }
+            PlanNode::Sel(timeout, plans) => {
+                let copies = copies(alloc, plans.as_slice())?;
+                Ok(PlanTree {
+                    node: PlanNode::Sel(*timeout, copies),
+                })
+            }
+        }
+    }
+}
+
+/// Copies of trees.
+#[cycle(copy)]
+fn copies<M: Copy, G: Copy>(
+    alloc: Global,
+    trees: &[PlanTree<M, G>],
+) -> Result<Vec<PlanTree<M, G>>, NoMemory>
+    ensures { IfOk result (λ copies. copies.items ≡ trees.now) }
+{
+    let mut copies = Vec::new(alloc);
+    for tree in trees {
+        copies.push(tree.copy(alloc)?)?;
+    }
+    Ok(copies)
+}
+
+/// A copy of a plain channel.
+pub fn leaf_copy(alloc: Global, leaf: &LeafChan) -> Result<LeafChan, NoMemory>
+    ensures { IfOk result (λ copy. copy ≡ leaf.now) }
+{
+    let mut servers = Vec::new(alloc);
+    servers.extend_from_slice(leaf.servers.list())?;
+    Ok(LeafChan {
+        servers: List::of(servers),
+        retry: leaf.retry,
+        backup: leaf.backup,
+        timeout: leaf.timeout,
+    })
+}
+
+fn rule_copy<M: Copy, G: Copy>(alloc: Global, rule: &Rule<M, G>) -> Result<Rule<M, G>, NoMemory>
+    ensures { IfOk result (λ copy. rule_of copy ≡ rule_of rule.now) }
+{
+    Ok(Rule {
+        maps: List::of(Vec::from_slice(alloc, rule.maps.list())?),
+        merges: List::of(Vec::from_slice(alloc, rule.merges.list())?),
+        fail: rule.fail,
+        ok: rule.ok,
+        timeout: rule.timeout,
+    })
 }
