@@ -14,8 +14,9 @@ mod Requests
 mod Paths
 mod Parallels
 pub mod Versions
+pub mod Within
 mod Even
-mod Ended
+pub mod Ended
 mod Replies
 mod Earned
 mod Completions
@@ -24,4 +25,4 @@ pub mod Once
 mod Logs
 mod Heard
 pub mod MomentsStay
-mod Runs
+pub mod Runs

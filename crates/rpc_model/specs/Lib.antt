@@ -24,6 +24,7 @@ pub mod Limits
 pub mod Fits
 pub mod Early
 pub mod Soon
+pub mod Served
 pub mod Moments
 pub mod Logs
 pub mod Earned

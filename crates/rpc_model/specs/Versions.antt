@@ -21,6 +21,10 @@ is_same (Node n) (Attempt node attempt) = false
 is_same (Attempt n k) (Node node) = false
 is_same (Attempt n k) (Attempt node attempt) = n == node && k == attempt
 
+abbrev pub or_leaf : Option LeafChan → Option LeafChan → Option LeafChan
+or_leaf None later = later
+or_leaf (Some leaf) later = Some leaf
+
 module _ {M G : Type 0} where
   -- how many nodes
   abbrev mutual
@@ -70,10 +74,6 @@ module _ {M G : Type 0} where
   meaning_of plan offset = slice_get (versions plan) offset
 
   -- ---- the leaf of a number
-
-  abbrev pub or_leaf : Option LeafChan → Option LeafChan → Option LeafChan
-  or_leaf None later = later
-  or_leaf (Some leaf) later = Some leaf
 
   abbrev mutual
     -- the leaf of this number, where the plan's root has the number before it

@@ -2,14 +2,13 @@
 use Rattle.std.proofs.Common.{◌≡◌, ◌≢◌, ℕ, zero, suc, ◌+◌, ◌-◌, ◌/◌, ◌^◌, ◌<◌, ◌≤◌, ◌⊎◌, inl, inr, leb, ltb, ◌&&◌, false, if◌then◌else◌, List, [], ◌∷◌, length, slice_get, Option, None, Some, ap, sym, refl, ◌∙◌, subst, arith}
 use Rattle.std.proofs.lemmas.Bool.{cases_lt}
 use Rattle.std.proofs.lemmas.Bool.Decides.{nat_tests}
-use Rattle.sim_run.specs.PlainMachine.{attempts}
-use Rattle.sim_run.specs.PlainMarks.{Begun}
+use Rattle.rpc_model.specs.Marks.{Begun}
 use Rattle.id_pool.specs.Ids.{one_less, slot_of, version_of}
 use Rattle.id_pool.specs.Ranges.{Slot, Vacant, Retired, Taken, Range, offset, seen, seen_at, seen_in, look, slot_at, change}
 use Rattle.id_pool.specs.Answers.{value_says}
 use Rattle.sim_run.specs.declared.ticket.Ticket.{Ticket}
 use Rattle.sim_run.proofs.Changes.{slice_get-change}
-use Rattle.sim_run.specs.Desk.{IsOf, IsOfSlot, IsNumbered, IsKnown, IsPastIn, IsPast}
+use Rattle.sim_run.specs.Desk.{IsOf, IsOfSlot, IsNumbered, IsKnown, width_of}
 
 pub high_half : (h s : ℕ) → one_less h ≡ Some s → h ≡ suc s
 high_half zero s e = absurd (cc)
@@ -31,10 +30,10 @@ offset-before r v h =
 pub seen-before : {T : Type 0} (r : Range T) (v : ℕ) → v < r.first → value_says (seen v (Taken r)) ≡ None
 seen-before r v h = ap (λ o. value_says (seen_at r o r.standing)) (offset-before r v h)
 
--- what a call's step may make of a slot: the same range again with no fewer attempts, none once that has left, or a new one
+-- what a call's step may make of a slot: the same range again, none once that has left, or a new one
 abbrev pub IsNext : Slot Begun → Slot Begun → Type 0
-IsNext (Taken r) (Taken s) = (s.first ≡ r.first) × (s.size ≡ r.size) × (attempts r.value.state ≤ attempts s.value.state)
-IsNext (Taken r) (Vacant next) = (next ≡ r.first + r.size) × (attempts r.value.state < r.size)
+IsNext (Taken r) (Taken s) = (s.first ≡ r.first) × (s.size ≡ r.size)
+IsNext (Taken r) (Vacant next) = next ≡ r.first + r.size
 IsNext (Vacant next) (Taken s) = s.first ≡ next
 IsNext s t = ⊥
 
@@ -44,22 +43,22 @@ IsAside range (Vacant next) = Unit {0}
 IsAside range Retired = Unit {0}
 IsAside range (Taken r) = version_of range.first ≢ r.first
 
-aside-taken : (range : Ticket) (r : Range Begun) → 1 ≤ range.width → IsOf range (Taken r) → IsAside range (Taken r) → version_of range.first + range.width ≤ r.first
+aside-taken : (range : Ticket) (r : Range Begun) → 1 ≤ width_of range → IsOf range (Taken r) → IsAside range (Taken r) → version_of range.first + width_of range ≤ r.first
 aside-taken range r some (inl own) aside = absurd (aside own.0)
 aside-taken range r some (inr before) aside = before
 
 -- Ids of another range of the slot find nothing, before and after.
-aside-slot : (range : Ticket) (s t : Slot Begun) → 1 ≤ range.width → IsNext s t → IsOf range s → IsAside range s
+aside-slot : (range : Ticket) (s t : Slot Begun) → 1 ≤ width_of range → IsNext s t → IsOf range s → IsAside range s
     → (value_says (seen (version_of range.first) t) ≡ value_says (seen (version_of range.first) s)) × IsOf range t
 aside-slot range (Taken r) (Taken s) some next of aside =
     let before = aside-taken range r some of aside in
-    let b : version_of range.first + range.width ≤ s.first = omega (arith, before, next.0) in
+    let b : version_of range.first + width_of range ≤ s.first = omega (arith, before, next.0) in
     (seen-before s (version_of range.first) (omega (arith, b, some)) ∙ sym (seen-before r (version_of range.first) (omega (arith, before, some))), inr b)
 aside-slot range (Taken r) (Vacant n) some next of aside =
     let before = aside-taken range r some of aside in
-    (sym (seen-before r (version_of range.first) (omega (arith, before, some))), omega (arith, before, next.0))
+    (sym (seen-before r (version_of range.first) (omega (arith, before, some))), omega (arith, before, next))
 aside-slot range (Vacant n) (Taken s) some next of aside =
-    let b : version_of range.first + range.width ≤ s.first = omega (arith, of, next) in
+    let b : version_of range.first + width_of range ≤ s.first = omega (arith, of, next) in
     (seen-before s (version_of range.first) (omega (arith, b, some)), inr b)
 aside-slot range (Taken r) Retired some next of aside = absurd next
 aside-slot range (Vacant n) (Vacant m) some next of aside = absurd next
@@ -108,7 +107,7 @@ aside-at slots after call range (Some j) i f s p e at next known aside = elim (s
       ap (λ m. value_says (seen_in (version_of range.first) m)) at1 ∙ both.0 ∙ sym (ap (λ m. value_says (seen_in (version_of range.first) m)) at0) in
       record {
         value = value;
-        known = (known.0, subst (IsOfSlot range) (sym at1) both.1, subst (IsNumbered call) (sym value) known.2);
+        known = (known.0, subst (IsOfSlot range) (sym at1) both.1, subst (IsNumbered call range) (sym value) known.2);
       }
   | inr other ↦
       let at1 : slot_at (slot_of range.first) after ≡ slot_at (slot_of range.first) slots =
@@ -116,7 +115,7 @@ aside-at slots after call range (Some j) i f s p e at next known aside = elim (s
       let value : value_says (look range.first after) ≡ value_says (look range.first slots) = ap (λ m. value_says (seen_in (version_of range.first) m)) at1 in
       record {
         value = value;
-        known = (known.0, subst (IsOfSlot range) (sym at1) known.1, subst (IsNumbered call) (sym value) known.2);
+        known = (known.0, subst (IsOfSlot range) (sym at1) known.1, subst (IsNumbered call range) (sym value) known.2);
       }
 ]
 
@@ -124,31 +123,6 @@ aside-at slots after call range (Some j) i f s p e at next known aside = elim (s
 pub stands-aside : (slots after : List (Slot Begun)) (call : ℕ) (range : Ticket) (i : ℕ) (f : Slot Begun → Slot Begun) (s : Slot Begun) → after ≡ change i f slots → slice_get slots i ≡ Some s
     → IsNext s (f s) → IsKnown slots call (Some range) → (slot_of range.first ≡ Some i → IsAside range s) → StandsAside slots after call range
 stands-aside slots after call range i f s e at next known aside = aside-at slots after call range (slot_of range.first) i f s refl e at next known aside
-
-past-slot : (v : ℕ) (s t : Slot Begun) → IsNext s t → IsPastIn v (Some s) → IsPastIn v (Some t)
-past-slot v (Taken r) (Taken s) next h = omega (arith, h, next.0, next.2)
-past-slot v (Taken r) (Vacant n) next h = omega (arith, h, next.0, next.1)
-past-slot v (Vacant n) (Taken s) next h = omega (arith, h, next)
-past-slot v (Taken r) Retired next h = absurd next
-past-slot v (Vacant n) (Vacant m) next h = absurd next
-past-slot v (Vacant n) Retired next h = absurd next
-past-slot v Retired (Vacant m) next h = absurd next
-past-slot v Retired (Taken s) next h = absurd next
-past-slot v Retired Retired next h = absurd next
-
-past-at : (v i : ℕ) (f : Slot Begun → Slot Begun) (slots : List (Slot Begun)) (s : Slot Begun) (o : Option ℕ) → slice_get slots i ≡ Some s → IsNext s (f s) → IsPastIn v (slot_at o slots) → IsPastIn v (slot_at o (change i f slots))
-past-at v i f slots s None at next h = h
-past-at v i f slots s (Some j) at next h = elim (same_or i j) [
-  | inl same ↦
-      let here : slice_get slots j ≡ Some s = ap (slice_get slots) (sym same) ∙ at in
-      let there : slice_get (change i f slots) j ≡ Some (f s) = ap (slice_get (change i f slots)) (sym same) ∙ slice_get-change i f slots s at in
-      subst (IsPastIn v) (sym there) (past-slot v s (f s) next (subst (IsPastIn v) here h))
-  | inr other ↦ subst (IsPastIn v) (sym (slice_get-other i j f slots other)) h
-]
-
--- A version that a slot had stays one that it had.
-pub past-change : (i : ℕ) (f : Slot Begun → Slot Begun) (slots : List (Slot Begun)) (s : Slot Begun) (id : ℕ) → slice_get slots i ≡ Some s → IsNext s (f s) → IsPast slots id → IsPast (change i f slots) id
-past-change i f slots s id at next h = past-at (version_of id) i f slots s (slot_of id) at next h
 
 -- The slots are as many as before.
 pub length-change : {T : Type 0} (i : ℕ) (f : Slot T → Slot T) (slots : List (Slot T)) → length (change i f slots) ≡ length slots

@@ -6,10 +6,10 @@ use Rattle.std.proofs.lemmas.List.Sums.{sum_by-append, count_by-le-length}
 use Rattle.std.proofs.lemmas.Map.Keys.{IsDistinct-cons, IsDistinct-head, IsDistinct-tail}
 use Rattle.std.specs.List.{IsDistinct, AllByRecursion}
 use Rattle.std.specs.Map.{keys_of}
-use Rattle.sim_run.specs.PlainPlan.{possible_attempts, width as plan_width}
+use Rattle.rpc_model.specs.Plan.{possible_attempts, width as plan_width}
 use Rattle.sim_run.specs.PlainMachine.{attempts}
-use Rattle.sim_run.specs.PlainMarks.{Begun, most_marks}
-use Rattle.sim_run.specs.PlainTold.{Standing, begun, full, is_begun}
+use Rattle.rpc_model.specs.Marks.{Begun, most_marks}
+use Rattle.rpc_model.specs.Told.{Standing, begun, full, is_begun}
 use Rattle.id_pool.specs.Ids.{make_id, slot_of, version_of}
 use Rattle.id_pool.specs.Ranges.{Slot, Vacant, Retired, Taken, Free, look, lowest, later, offset, change, fresh, slot_at}
 use Rattle.id_pool.specs.Answers.{value_says}
@@ -121,7 +121,7 @@ new-first slots i next ((call, Some range) ∷ xs) at low known = (ne_eqb range.
     differ : range.first ≡ make_id i next → ⊥
     differ same =
         let slot : slot_at (slot_of range.first) slots ≡ Some (Vacant next) = ap (λ o. slot_at o slots) (ap slot_of same ∙ slot_of-make_id i next low) ∙ at in
-        let of : version_of range.first + range.width ≤ next = subst (IsOfSlot range) slot known.0.1 in
+        let of : version_of range.first + width_of range ≤ next = subst (IsOfSlot range) slot known.0.1 in
         let version : version_of range.first ≡ next = ap version_of same ∙ version_of-make_id i next low in
         let some = known.0.0 in
         omega (arith, of, version, some)
@@ -179,7 +179,7 @@ call-begins slots entries call i next width chan b sound few at sized some most 
       sound = record {
         numbers = numbers;
         ids = subst (IsDistinct nat_eq) (sym (firsts-snoc entries call (Some range))) (distinct-snoc (firsts entries) (make_id i next) sound.ids (new-first slots i next entries at low sound.known));
-        known = All-snoc (λ entry. IsKnown after entry.0 entry.1) entries (call, Some range) others.1 (some, subst (IsOfSlot range) (sym at_new) (inl (version, refl)), subst (IsNumbered call) (sym looks) number);
+        known = All-snoc (λ entry. IsKnown after entry.0 entry.1) entries (call, Some range) others.1 (some, subst (IsOfSlot range) (sym at_new) (inl (version, refl)), subst (IsNumbered call range) (sym looks) number);
         open_slots = All-change (IsSlot (1 + 1024 * length (entries ++ (call, Some range) ∷ []))) i g slots
             (All-weaken (IsSlot (1 + 1024 * length entries)) (IsSlot (1 + 1024 * length (entries ++ (call, Some range) ∷ []))) slots (λ s h. slot-later _ _ s (omega (arith, more)) h) sound.open_slots)
             (λ s e h. record { below = omega (arith, top, most, more); free = refl; few_marks = few_marks; sized = sized; few_attempts = few_attempts });

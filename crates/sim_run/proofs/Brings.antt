@@ -1,25 +1,26 @@
--- What comes to a call by one of its ids, and what is left of slots, wires and marks.
-use Rattle.std.proofs.Common.{◌≡◌, ℕ, zero, suc, ◌+◌, ◌-◌, ◌^◌, ◌<◌, ◌≤◌, nat_eq, List, [], ◌∷◌, length, slice_get, Option, None, Some, ap, sym, refl, ◌∙◌, subst, arith}
+-- What comes to a call by one of its ids, and what is left of slots and marks.
+use Rattle.std.proofs.Common.{◌≡◌, inl, inr, ℕ, zero, suc, ◌+◌, ◌-◌, ◌^◌, ◌<◌, ◌≤◌, nat_eq, List, [], ◌∷◌, length, slice_get, Option, None, Some, ap, sym, refl, ◌∙◌, subst, arith}
 use Rattle.std.specs.Map.{lookup}
-use Rattle.sim_run.specs.PlainMarks.{Begun}
-use Rattle.sim_run.specs.PlainTold.{Standing}
+use Rattle.rpc_model.specs.Marks.{Begun}
+use Rattle.rpc_model.specs.Told.{Standing}
 use Rattle.id_pool.specs.Ids.{make_id, slot_of, version_of}
 use Rattle.id_pool.proofs.Ids.{slot_of-make_id, version_of-make_id}
-use Rattle.id_pool.specs.Ranges.{Slot, Taken, Range, Nothing, Unlocked, look, slot_at, change, change_at, changed}
+use Rattle.id_pool.specs.Ranges.{Slot, Taken, Range, Vacant, Nothing, Unlocked, look, slot_at, change, change_at, changed}
 use Rattle.id_pool.specs.Answers.{value_says}
 use Rattle.timer_core.specs.declared.mark.Mark.{Mark}
 use Rattle.sim_run.specs.declared.ticket.Ticket.{Ticket}
 use Rattle.sim_run.specs.Link.{Link}
-use Rattle.sim_run.specs.Slots.{visit, visit_by, visited}
-use Rattle.sim_run.specs.Sends.{issue, issue_by, MayIssue, LookMayIssue}
-use Rattle.sim_run.specs.Marked.{AreMarked}
-use Rattle.sim_run.specs.Desk.{IsSlot, IsSound, IsWired}
-use Rattle.sim_run.proofs.Changes.{look-at}
-use Rattle.sim_run.proofs.Apart.{same_id}
+use Rattle.sim_run.specs.declared.turn.Turn.{Turn}
+use Rattle.sim_run.specs.Slots.{visit, visit_by, visited, turned, finished, acts_by}
+use Rattle.sim_run.specs.Acting.{Acting, turned_by, joined_by}
+use Rattle.sim_run.specs.Marked.{AreMarked, HasMark, HasMarks, IsFit, IsOwned, AreOwned}
+use Rattle.sim_run.specs.Desk.{IsSlot, IsSound, width_of}
+use Rattle.sim_run.proofs.Changes.{look-at, slice_get-change}
+use Rattle.sim_run.proofs.Apart.{same_id, same_or, slice_get-other}
+use Rattle.sim_run.proofs.Acts.{IsMarked, all-has, marks-own, turned-call, turned-marked, joined-call, joined-marked}
+use Rattle.sim_run.proofs.Fit.{turned-fit, finished-fit}
 use Rattle.sim_run.proofs.Entries.{slot-of-all, known-of}
 use Rattle.sim_run.proofs.Steps.{Lives, lives, most, Follows, Changes, change-moved, finds-in, is-over, over-look, over-nothing}
-use Rattle.sim_run.proofs.Wired.{wired-step, may-issue}
-use Rattle.sim_run.proofs.Marked.{marked-step}
 
 pub slice_get-within : {X : Type 0} (i : ℕ) (xs : List X) (x : X) → slice_get xs i ≡ Some x → i < length xs
 slice_get-within i [] x e = absurd (cc)
@@ -37,7 +38,7 @@ pub record Found (slots : List (Slot Begun)) (ticket : Ticket) (b : Begun) (k : 
   pub behind : (ticket.first + k) - k ≡ make_id l.slot l.r.first
   pub slot : slot_of (ticket.first + k) ≡ Some l.slot
 
-pub found : (slots : List (Slot Begun)) (entries : List (ℕ × Option Ticket)) (ticket : Ticket) (b : Begun) (k : ℕ) (l : Lives slots ticket b) → IsSound slots entries → length entries ≤ 500000 → k < ticket.width → Found slots ticket b k l
+pub found : (slots : List (Slot Begun)) (entries : List (ℕ × Option Ticket)) (ticket : Ticket) (b : Begun) (k : ℕ) (l : Lives slots ticket b) → IsSound slots entries → length entries ≤ 500000 → k < width_of ticket → Found slots ticket b k l
 found slots entries ticket b k l sound few within =
     let range = slot-of-all (IsSlot (most entries)) l.slot slots (Taken l.r) sound.open_slots l.at in
     let below = range.below in
@@ -50,88 +51,110 @@ found slots entries ticket b k l sound few within =
       slot = here.0;
     }
 
--- what is left of slots, wires and marks
-pub record Brings (servers : ℕ) (slots after : List (Slot Begun)) (wires : List Link) (marks : List Mark) (entries : List (ℕ × Option Ticket)) (call : ℕ) (f : Standing → Standing) : Type 0 where
-  pub follows : Follows slots after entries call f
-  pub wired : IsWired servers after wires
-  pub marked : AreMarked marks after
+-- ---- what is left of slots and marks
 
-brings-over : (servers : ℕ) (slots : List (Slot Begun)) (wires : List Link) (marks : List Mark) (entries : List (ℕ × Option Ticket)) (call : ℕ) (ticket : Ticket) (h : Begun → Begun) (f : Standing → Standing) (k : ℕ) → IsSound slots entries → length entries ≤ 500000
-    → lookup (nat_eq call) entries ≡ Some (Some ticket) → k < ticket.width → IsWired servers slots wires → AreMarked marks slots → value_says (look ticket.first slots) ≡ None
+-- A range whose call was changed, among slots whose marks are in the list: what it does adds marks, and drops none.
+pub marked-step : (slots : List (Slot Begun)) (i : ℕ) (r s : Range Begun) (g : Slot Begun → Slot Begun) (a b : Acting) → slice_get slots i ≡ Some (Taken r) → g (Taken r) ≡ Taken s → s.first ≡ r.first
+    → HasMarks (make_id i r.first) s.value.waiting b.marks → ((id moment : ℕ) → HasMark id moment a.marks → HasMark id moment b.marks) → AreMarked a.marks slots → AreMarked b.marks (change i g slots)
+marked-step slots i r s g a b at is first done others all j x there = elim (same_or i j) [
+  | inl same ↦
+      let new : slice_get (change i g slots) i ≡ Some (Taken s) = slice_get-change i g slots (Taken r) at ∙ ap Some is in
+      let both : Some (Taken s) ≡ Some (Taken x) = sym new ∙ ap (slice_get (change i g slots)) same ∙ there in
+      let own : s ≡ x = same-taken s x both in
+      subst (λ (y : Range Begun). HasMarks (make_id j y.first) y.value.waiting b.marks) own (subst (λ n. HasMarks (make_id n s.first) s.value.waiting b.marks) same (subst (λ f. HasMarks (make_id i f) s.value.waiting b.marks) (sym first) done))
+  | inr other ↦
+      let here : slice_get slots j ≡ Some (Taken x) = sym (slice_get-other i j g slots other) ∙ there in
+      all-has (make_id j x.first) x.value.waiting a.marks b.marks others (all j x here)
+]
+  where
+    same-taken : (s x : Range Begun) → Some (Taken s) ≡ Some (Taken x) → s ≡ x
+    same-taken s x e = cc
+
+-- Where a slot no longer has a call, the others' marks are in the list.
+pub marked-left : (slots : List (Slot Begun)) (i next : ℕ) (r : Range Begun) (g : Slot Begun → Slot Begun) (a b : Acting) → slice_get slots i ≡ Some (Taken r) → g (Taken r) ≡ Vacant next → ((id moment : ℕ) → HasMark id moment a.marks → HasMark id moment b.marks) → AreMarked a.marks slots → AreMarked b.marks (change i g slots)
+marked-left slots i next r g a b at is others all j x there = elim (same_or i j) [
+  | inl same ↦
+      let new : slice_get (change i g slots) i ≡ Some (Vacant next) = slice_get-change i g slots (Taken r) at ∙ ap Some is in
+      let both : Some (Vacant next) ≡ Some (Taken x) = sym new ∙ ap (slice_get (change i g slots)) same ∙ there in
+      absurd (cc)
+  | inr other ↦
+      let here : slice_get slots j ≡ Some (Taken x) = sym (slice_get-other i j g slots other) ∙ there in
+      all-has (make_id j x.first) x.value.waiting a.marks b.marks others (all j x here)
+]
+
+-- what comes to a call and what the call does: both are the same change of the call, and the call's marks stay in the list
+pub record Does (f : ℕ → Acting → Acting) (h : Begun → Begun) : Type 0 where
+  pub call : (first : ℕ) (a : Acting) → (f first a).call ≡ h a.call
+  pub marks : (n first : ℕ) (a : Acting) → IsFit n a.call → IsMarked n first a (f first a)
+  pub fit : (n : ℕ) (b : Begun) → IsFit n b → IsFit n (h b)
+
+-- what is left of slots and marks
+pub record Brings (slots after : List (Slot Begun)) (marks : List Mark) (entries : List (ℕ × Option Ticket)) (call : ℕ) (f : Standing → Standing) : Type 0 where
+  pub follows : Follows slots after entries call f
+  pub marked : AreMarked marks after
+  pub owned : AreOwned entries marks
+
+-- The ids of a call's range are the call's.
+pub own-ids : (entries : List (ℕ × Option Ticket)) (call : ℕ) (ticket : Ticket) {n first : ℕ} → lookup (nat_eq call) entries ≡ Some (Some ticket) → width_of ticket ≡ n → ticket.first ≡ first → (node : ℕ) → node < n → IsOwned entries (first + node)
+own-ids entries call ticket at wide is node less = record { call = call; ticket = ticket; place = node; found = at; within = omega (arith, wide, less); is = omega (arith, is) }
+
+brings-over : (slots : List (Slot Begun)) (wires : List Link) (marks : List Mark) (entries : List (ℕ × Option Ticket)) (call : ℕ) (ticket : Ticket) (d : ℕ → Acting → Acting) (h : Begun → Begun) (f : Standing → Standing) (k : ℕ) → IsSound slots entries → length entries ≤ 500000
+    → lookup (nat_eq call) entries ≡ Some (Some ticket) → k < width_of ticket → AreMarked marks slots → AreOwned entries marks → value_says (look ticket.first slots) ≡ None
     → Follows slots (changed (visit h (version_of (ticket.first + k))) (ticket.first + k) slots) entries call f
-    → Brings servers slots (changed (visit h (version_of (ticket.first + k))) (ticket.first + k) slots) (issue_by (ticket.first + k) h (look (ticket.first + k) slots) wires) marks entries call f
-brings-over servers slots wires marks entries call ticket h f k sound few at within wired marked none follows =
+    → Brings slots (changed (visit h (version_of (ticket.first + k))) (ticket.first + k) slots) (acts_by (ticket.first + k) d (look (ticket.first + k) slots) wires marks).1 entries call f
+brings-over slots wires marks entries call ticket d h f k sound few at within marked owned none follows =
     let known = known-of slots call (Some ticket) entries sound.known at in
     let o = is-over slots call ticket (most entries) known sound.open_slots (omega (arith, few)) none in
     let there = over-look slots ticket o k within in
     let nothing : look (ticket.first + k) slots ≡ Nothing = look-at (ticket.first + k) slots o.slot there.0 ∙ there.1 in
     let same = over-nothing slots ticket o k (λ v. visit h v) within (λ v s e. ap (λ x. visit_by h x s) e) in
-    let silent : issue_by (ticket.first + k) h (look (ticket.first + k) slots) wires ≡ wires = ap (λ x. issue_by (ticket.first + k) h x wires) nothing in
+    let silent : (acts_by (ticket.first + k) d (look (ticket.first + k) slots) wires marks).1 ≡ marks = ap (λ x. (acts_by (ticket.first + k) d x wires marks).1) nothing in
     record {
       follows = follows;
-      wired = subst (λ ss. IsWired servers ss (issue_by (ticket.first + k) h (look (ticket.first + k) slots) wires)) (sym same) (subst (IsWired servers slots) (sym silent) wired);
-      marked = subst (AreMarked marks) (sym same) marked;
+      marked = subst (λ ss. AreMarked (acts_by (ticket.first + k) d (look (ticket.first + k) slots) wires marks).1 ss) (sym same) (subst (λ ms. AreMarked ms slots) (sym silent) marked);
+      owned = subst (AreOwned entries) (sym silent) owned;
     }
 
-brings-lives : (servers : ℕ) (slots : List (Slot Begun)) (wires : List Link) (marks : List Mark) (entries : List (ℕ × Option Ticket)) (call : ℕ) (ticket : Ticket) (h : Begun → Begun) (f : Standing → Standing) (k : ℕ) (b : Begun) → Changes slots ticket h f → IsSound slots entries
-    → length entries ≤ 500000 → lookup (nat_eq call) entries ≡ Some (Some ticket) → k < ticket.width → IsWired servers slots wires → AreMarked marks slots → value_says (look ticket.first slots) ≡ Some b
+brings-lives : (slots : List (Slot Begun)) (wires : List Link) (marks : List Mark) (entries : List (ℕ × Option Ticket)) (call : ℕ) (ticket : Ticket) (d : ℕ → Acting → Acting) (h : Begun → Begun) (f : Standing → Standing) (k : ℕ) (b : Begun) → Does d h → IsSound slots entries
+    → length entries ≤ 500000 → lookup (nat_eq call) entries ≡ Some (Some ticket) → k < width_of ticket → AreMarked marks slots → AreOwned entries marks → value_says (look ticket.first slots) ≡ Some b
     → Follows slots (changed (visit h (version_of (ticket.first + k))) (ticket.first + k) slots) entries call f
-    → Brings servers slots (changed (visit h (version_of (ticket.first + k))) (ticket.first + k) slots) (issue_by (ticket.first + k) h (look (ticket.first + k) slots) wires) marks entries call f
-brings-lives servers slots wires marks entries call ticket h f k b does sound few at within wired marked value follows =
+    → Brings slots (changed (visit h (version_of (ticket.first + k))) (ticket.first + k) slots) (acts_by (ticket.first + k) d (look (ticket.first + k) slots) wires marks).1 entries call f
+brings-lives slots wires marks entries call ticket d h f k b does sound few at within marked owned value follows =
     let known = known-of slots call (Some ticket) entries sound.known at in
     let l = lives slots call ticket b (most entries) known sound.open_slots value in
-    let range = slot-of-all (IsSlot (most entries)) l.slot slots (Taken l.r) sound.open_slots l.at in
     let it = found slots entries ticket b k l sound few within in
     let g = visit h (version_of (ticket.first + k)) in
-    let c = h l.r.value in
+    let a : Acting = record { call = l.r.value; wires = wires; marks = marks } in
+    let id = make_id l.slot l.r.first in
     let here = finds-in slots ticket b (most entries) k l sound.open_slots (omega (arith, few)) within in
-    let is : g (Taken l.r) ≡ Taken (visited l.r c) = ap (λ x. visit_by h x (Taken l.r)) here.1 in
+    let is : g (Taken l.r) ≡ Taken (visited l.r (h l.r.value)) = ap (λ x. visit_by h x (Taken l.r)) here.1 in
     let same : changed g (ticket.first + k) slots ≡ change l.slot g slots = ap (λ o. change_at o g slots) it.slot in
-    let out : issue_by (ticket.first + k) h (look (ticket.first + k) slots) wires ≡ issue (make_id l.slot l.r.first) l.r.value c wires = ap (λ x. issue_by (ticket.first + k) h x wires) it.looks ∙ ap (λ n. issue n l.r.value c wires) it.behind in
-    let later = does.later l.r.value in
-    let step = wired-step servers slots wires l.slot (most entries) l.r c g (Taken (visited l.r c)) wired l.at range (omega (arith, few)) later is (refl, refl, refl) in
+    let out : (acts_by (ticket.first + k) d (look (ticket.first + k) slots) wires marks).1 ≡ (d id a).marks =
+    ap (λ x. (acts_by (ticket.first + k) d x wires marks).1) it.looks ∙ ap (λ n. (d n a).marks) it.behind in
+    let range = slot-of-all (IsSlot (most entries)) l.slot slots (Taken l.r) sound.open_slots l.at in
+    let kept = does.marks l.r.size id a range.fit in
+    let done : HasMarks id (h l.r.value).waiting (d id a).marks = subst (λ (c : Begun). HasMarks id c.waiting (d id a).marks) (does.call id a) (marks-own l.r.size id a (d id a) kept (marked l.slot l.r l.at)) in
+    let step = marked-step slots l.slot l.r (visited l.r (h l.r.value)) g a (d id a) l.at is refl done kept.others marked in
+    let mine = own-ids entries call ticket at l.width it.own in
     record {
       follows = follows;
-      wired = subst (λ ss. IsWired servers ss (issue_by (ticket.first + k) h (look (ticket.first + k) slots) wires)) (sym same) (subst (IsWired servers (change l.slot g slots)) (sym out) step);
-      marked = subst (AreMarked marks) (sym same) (marked-step marks slots l.slot l.r c g (Taken (visited l.r c)) marked l.at later is (refl, refl, refl));
+      marked = subst (λ ss. AreMarked (acts_by (ticket.first + k) d (look (ticket.first + k) slots) wires marks).1 ss) (sym same) (subst (λ ms. AreMarked ms (change l.slot g slots)) (sym out) step);
+      owned = subst (AreOwned entries) (sym out) (kept.ids (IsOwned entries) mine owned);
     }
 
 -- What comes to a call by one of its ids.
-pub brings : (servers : ℕ) (slots : List (Slot Begun)) (wires : List Link) (marks : List Mark) (entries : List (ℕ × Option Ticket)) (call : ℕ) (ticket : Ticket) (h : Begun → Begun) (f : Standing → Standing) (k : ℕ) → Changes slots ticket h f → IsSound slots entries
-    → length entries ≤ 500000 → lookup (nat_eq call) entries ≡ Some (Some ticket) → k < ticket.width → IsWired servers slots wires → AreMarked marks slots
-    → Brings servers slots (changed (visit h (version_of (ticket.first + k))) (ticket.first + k) slots) (issue_by (ticket.first + k) h (look (ticket.first + k) slots) wires) marks entries call f
-brings servers slots wires marks entries call ticket h f k does sound few at within wired marked = by (value_says (look ticket.first slots)) refl
+pub brings : (slots : List (Slot Begun)) (wires : List Link) (marks : List Mark) (entries : List (ℕ × Option Ticket)) (call : ℕ) (ticket : Ticket) (d : ℕ → Acting → Acting) (h : Begun → Begun) (f : Standing → Standing) (k : ℕ) → Does d h → Changes slots ticket h f → IsSound slots entries
+    → length entries ≤ 500000 → lookup (nat_eq call) entries ≡ Some (Some ticket) → k < width_of ticket → AreMarked marks slots → AreOwned entries marks
+    → Brings slots (changed (visit h (version_of (ticket.first + k))) (ticket.first + k) slots) (acts_by (ticket.first + k) d (look (ticket.first + k) slots) wires marks).1 entries call f
+brings slots wires marks entries call ticket d h f k acts does sound few at within marked owned = by (value_says (look ticket.first slots)) refl
   where
     by : (x : Option Begun) → value_says (look ticket.first slots) ≡ x
-        → Brings servers slots (changed (visit h (version_of (ticket.first + k))) (ticket.first + k) slots) (issue_by (ticket.first + k) h (look (ticket.first + k) slots) wires) marks entries call f
-    by None e = brings-over servers slots wires marks entries call ticket h f k sound few at within wired marked e (change-moved slots entries call ticket h f k does sound few at within)
-    by (Some b) e = brings-lives servers slots wires marks entries call ticket h f k b does sound few at within wired marked e (change-moved slots entries call ticket h f k does sound few at within)
+        → Brings slots (changed (visit h (version_of (ticket.first + k))) (ticket.first + k) slots) (acts_by (ticket.first + k) d (look (ticket.first + k) slots) wires marks).1 entries call f
+    by None e = brings-over slots wires marks entries call ticket d h f k sound few at within marked owned e (change-moved slots entries call ticket h f k does sound few at within)
+    by (Some b) e = brings-lives slots wires marks entries call ticket d h f k b acts sound few at within marked owned e (change-moved slots entries call ticket h f k does sound few at within)
 
-same-seen : (a c : Range Begun) (j k : ℕ) → Unlocked a j ≡ Unlocked c k → (a ≡ c) × (j ≡ k)
-same-seen a c j k e = (cc, cc)
+pub turn-does : (t : Turn) → Does (turned_by t) (turned t)
+turn-does t = record { call = λ first a. turned-call t first a; marks = λ n first a fit. turned-marked n t first a fit; fit = λ n b fit. turned-fit n t b fit }
 
--- It may issue attempts meanwhile.
-pub brings-may : (servers : ℕ) (slots : List (Slot Begun)) (wires : List Link) (entries : List (ℕ × Option Ticket)) (call : ℕ) (ticket : Ticket) (k : ℕ) → IsSound slots entries → length entries ≤ 500000 → lookup (nat_eq call) entries ≡ Some (Some ticket) → k < ticket.width
-    → IsWired servers slots wires → length slots ≤ 4096 → LookMayIssue (ticket.first + k) slots wires
-brings-may servers slots wires entries call ticket k sound few at within wired small s j e = by (value_says (look ticket.first slots)) refl
-  where
-    by : (x : Option Begun) → value_says (look ticket.first slots) ≡ x → (j ≤ ticket.first + k) × MayIssue ((ticket.first + k) - j) s.value wires
-    by None none =
-        let known = known-of slots call (Some ticket) entries sound.known at in
-        let o = is-over slots call ticket (most entries) known sound.open_slots (omega (arith, few)) none in
-        let there = over-look slots ticket o k within in
-        let nothing : look (ticket.first + k) slots ≡ Nothing = look-at (ticket.first + k) slots o.slot there.0 ∙ there.1 in
-        let both = sym nothing ∙ e in
-        absurd (cc)
-    by (Some b) value =
-        let known = known-of slots call (Some ticket) entries sound.known at in
-        let l = lives slots call ticket b (most entries) known sound.open_slots value in
-        let range = slot-of-all (IsSlot (most entries)) l.slot slots (Taken l.r) sound.open_slots l.at in
-        let it = found slots entries ticket b k l sound few within in
-        let same = same-seen l.r s k j (sym it.looks ∙ e) in
-        let place = slice_get-within l.slot slots (Taken l.r) l.at in
-        let may = may-issue servers slots wires l.slot (most entries) l.r wired l.at range (omega (arith, few)) (omega (arith, place, small)) in
-        let moved = subst (λ n. MayIssue n l.r.value wires) (sym it.behind) may in
-        let ranged = subst (λ (r : Range Begun). MayIssue ((ticket.first + k) - k) r.value wires) same.0 moved in
-        let at_j = same.1 in
-        (omega (arith, at_j), subst (λ n. MayIssue ((ticket.first + k) - n) s.value wires) at_j ranged)
+pub join-does : (reached : ℕ) → Does (joined_by reached) (finished reached)
+join-does reached = record { call = λ first a. joined-call reached first a; marks = λ n first a fit. joined-marked n reached first a fit; fit = λ n b fit. finished-fit n reached b fit }

@@ -7,8 +7,8 @@ use Rattle.std.proofs.lemmas.Map.Keys.{IsDistinct-head, IsDistinct-tail}
 use Rattle.std.specs.List.{IsDistinct, AllByRecursion}
 use Rattle.std.specs.Map.{lookup}
 use Rattle.std.specs.Option.{option_map}
-use Rattle.sim_run.specs.PlainMarks.{Begun}
-use Rattle.sim_run.specs.PlainTold.{Standing, number_of, is_call, change_first}
+use Rattle.rpc_model.specs.Marks.{Begun}
+use Rattle.rpc_model.specs.Told.{Standing, number_of, is_call, change_first}
 use Rattle.id_pool.specs.Ranges.{Slot, change, look}
 use Rattle.id_pool.specs.Answers.{value_says}
 use Rattle.sim_run.specs.declared.ticket.Ticket.{Ticket}
@@ -32,9 +32,9 @@ numbered : (slots : List (Slot Begun)) (call : ℕ) (o : Option Ticket) → IsKn
 numbered slots call None known = refl
 numbered slots call (Some range) known = by (value_says (look range.first slots)) known.2
   where
-    by : (o : Option Begun) → IsNumbered call o → number_of (stand call o) ≡ call
+    by : (o : Option Begun) → IsNumbered call range o → number_of (stand call o) ≡ call
     by None h = refl
-    by (Some b) h = h
+    by (Some b) h = h.0
 
 -- what one call's step leaves of all calls
 pub record Moved (slots after : List (Slot Begun)) (call : ℕ) (f : Standing → Standing) (entries : List (ℕ × Option Ticket)) : Type 0 where

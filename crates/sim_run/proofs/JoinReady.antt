@@ -4,18 +4,19 @@ use Rattle.std.specs.Map.{lookup}
 use Rattle.rpc_model.specs.declared.script.Script.{Script}
 use Rattle.rpc_model.specs.declared.told.Told.{Told}
 use Rattle.rpc_model.specs.declared.told.Told.TheVariants.{Gone}
-use Rattle.sim_run.specs.PlainTold as spec
+use Rattle.rpc_model.specs.Told as spec
 use Rattle.sim_run.specs.declared.ticket.Ticket.{Ticket}
 use Rattle.sim_run.specs.declared.state.Replay.{Replay}
-use Rattle.sim_run.specs.PlainMarks.{Begun}
+use Rattle.rpc_model.specs.Marks.{Begun}
 use Rattle.id_pool.specs.Ids.{version_of}
 use Rattle.id_pool.specs.Ranges.{Slot, look, changed}
 use Rattle.sim_run.specs.Link.{Link}
-use Rattle.sim_run.specs.Slots.{finished, join}
-use Rattle.sim_run.specs.Sends.{issue_by}
+use Rattle.timer_core.specs.declared.mark.Mark.{Mark}
+use Rattle.sim_run.specs.Acting.{joined_by}
+use Rattle.sim_run.specs.Slots.{join, acts_by}
 use Rattle.sim_run.specs.Desk.{standings, IsReady, replay_of}
 use Rattle.sim_run.proofs.Brings.{Brings}
-use Rattle.sim_run.proofs.JoinWired.{join-leaves}
+use Rattle.sim_run.proofs.JoinMarked.{join-marked}
 use Rattle.sim_run.proofs.Steps.{Follows}
 use Rattle.sim_run.proofs.JoinSteps.{JoinFollows, join-moved, join-full, join-absent, join-idle}
 
@@ -29,7 +30,6 @@ idle : (script : Script) (old : Replay) (call : ℕ) → IsReady script old → 
 idle script old call ready none = record {
   stands = join-idle old.reached old.pool old.calls.entries call ready.sound.known none;
   sound = ready.sound;
-  past = λ id h. h;
   size = refl;
 }
 
@@ -63,12 +63,11 @@ joins-full script old call ready full =
 pub joins-ticket : (script : Script) (old : Replay) (call : ℕ) (ticket : Ticket) → IsReady script old → length old.calls.entries ≤ 500000 → Some (Some ticket) ≡ lookup (nat_eq call) old.calls.entries → JoinFollows old.reached old.pool old.calls.entries call ticket.first
 joins-ticket script old call ticket ready few found = join-moved old.reached old.pool old.calls.entries call ticket ready.sound few (sym found)
 
--- What such a join leaves of slots, wires and marks.
-pub join-brings : (script : Script) (old : Replay) (after : List (Slot Begun)) (wires : List Link) (call : ℕ) (ticket : Ticket) → IsReady script old → length old.calls.entries ≤ 500000 → Some (Some ticket) ≡ lookup (nat_eq call) old.calls.entries
+-- What such a join leaves of slots and marks.
+pub join-brings : (script : Script) (old : Replay) (after : List (Slot Begun)) (wires : List Link) (marks : List Mark) (call : ℕ) (ticket : Ticket) → IsReady script old → length old.calls.entries ≤ 500000 → Some (Some ticket) ≡ lookup (nat_eq call) old.calls.entries
     → Follows old.pool (changed (join old.reached (version_of ticket.first)) ticket.first old.pool) old.calls.entries call (spec.joined old.reached) → after ≡ changed (join old.reached (version_of ticket.first)) ticket.first old.pool
-    → wires ≡ issue_by ticket.first (finished old.reached) (look ticket.first old.pool) old.wires.items → Brings script.servers old.pool after wires old.marks old.calls.entries call (spec.joined old.reached)
-join-brings script old after wires call ticket ready few found follows is out =
-    let l = join-leaves script.servers old.reached old.pool old.wires.items old.marks old.calls.entries call ticket ready.sound few (sym found) ready.wired ready.marked in
-    let all : Brings script.servers old.pool (changed (join old.reached (version_of ticket.first)) ticket.first old.pool) (issue_by ticket.first (finished old.reached) (look ticket.first old.pool) old.wires.items) old.marks old.calls.entries call (spec.joined old.reached) =
-    record { follows = follows; wired = l.wired; marked = l.marked } in
-    rw (is, out) all
+    → (wires, marks) ≡ acts_by ticket.first (joined_by old.reached) (look ticket.first old.pool) old.wires.items old.marks → Brings old.pool after marks old.calls.entries call (spec.joined old.reached)
+join-brings script old after wires marks call ticket ready few found follows is out =
+    let set : marks ≡ (acts_by ticket.first (joined_by old.reached) (look ticket.first old.pool) old.wires.items old.marks).1 = ap (λ (p : List Link × List Mark). p.1) out in
+    let left = join-marked old.reached old.pool old.wires.items old.marks old.calls.entries call ticket ready.sound few (sym found) ready.marked ready.owned in
+    rw (is, set) (record { follows = follows; marked = left.marked; owned = left.owned })

@@ -8,20 +8,21 @@ use Rattle.std.specs.Option.{option_map}
 use Rattle.rpc_model.specs.declared.event.End.{End}
 use Rattle.rpc_model.specs.declared.told.Told.{Told}
 use Rattle.rpc_model.specs.declared.told.Told.TheVariants.{Gone}
-use Rattle.sim_run.specs.PlainMachine.{end_of}
-use Rattle.sim_run.specs.PlainMarks.{Begun, finish, most_marks}
-use Rattle.sim_run.specs.PlainTold.{Standing, begun, full, told_of, is_call, is_begun, change_first, joined, joined_moment, join_tells, join_end, stand_joined}
-use Rattle.sim_run.proofs.PlainOnce.{finish-call}
+use Rattle.rpc_model.specs.State.{end_of}
+use Rattle.rpc_model.specs.Marks.{Begun, finish}
+use Rattle.rpc_model.specs.Told.{Standing, begun, full, told_of, is_call, is_begun, change_first, joined, joined_moment, join_tells, join_end, stand_joined}
 use Rattle.id_pool.specs.Ids.{version_of}
 use Rattle.id_pool.specs.Ranges.{Slot, Vacant, Retired, Taken, Range, Nothing, Unlocked, seen, look, slot_at, change, change_at, changed, left_by}
 use Rattle.id_pool.specs.Answers.{value_says}
 use Rattle.sim_run.specs.declared.ticket.Ticket.{Ticket}
 use Rattle.sim_run.specs.Slots.{IsFirst, visited, finished, join, join_by, join_says, joined_to}
-use Rattle.sim_run.specs.Desk.{stand, standing_at, standings, IsNumbered, IsKnown, IsSlot, IsSound}
+use Rattle.sim_run.specs.Desk.{stand, standing_at, standings, IsNumbered, IsKnown, IsSlot, IsSound, width_of}
+use Rattle.sim_run.specs.Marked.{IsFit}
+use Rattle.sim_run.proofs.Fit.{finished-fit}
 use Rattle.sim_run.proofs.Later.{IsLater, finished-later}
 use Rattle.sim_run.proofs.Changes.{look-at}
 use Rattle.sim_run.proofs.Entries.{change_first-nothing, find-standing, slot-of-all, known-of}
-use Rattle.sim_run.proofs.Steps.{Lives, lives, most, stepped, range-wide, later-range, Follows, finds-in, visited-looks, is-over, over-look, over-nothing, over-standing, idle-if}
+use Rattle.sim_run.proofs.Steps.{Lives, lives, most, stepped, later-range, Follows, finds-in, visited-looks, is-over, over-look, over-nothing, over-standing, idle-if}
 
 -- the moment and the line of a join, by what it finds in the pool
 abbrev pub moment_or : ℕ → Option (ℕ × Told) → ℕ
@@ -39,19 +40,19 @@ pub record JoinFollows (reached : ℕ) (slots : List (Slot Begun)) (entries : Li
   pub tells : join_tells reached (find (is_call call) (standings slots entries)) ≡ tells_or call (join_says reached (look first slots)) ∷ []
 
 -- what the first id of a call finds that has begun and wasn't told
-pub first-finds : (slots : List (Slot Begun)) (range : Ticket) (b : Begun) (bound : ℕ) (l : Lives slots range b) → AllByRecursion (IsSlot bound) slots → bound < 2 ^ 32 → 1 ≤ range.width → seen (version_of range.first) (Taken l.r) ≡ Unlocked l.r 0
+pub first-finds : (slots : List (Slot Begun)) (range : Ticket) (b : Begun) (bound : ℕ) (l : Lives slots range b) → AllByRecursion (IsSlot bound) slots → bound < 2 ^ 32 → 1 ≤ width_of range → seen (version_of range.first) (Taken l.r) ≡ Unlocked l.r 0
 first-finds slots range b bound l open_ low some =
     let same : range.first + 0 ≡ range.first = omega arith in
     subst (λ id. seen (version_of id) (Taken l.r) ≡ Unlocked l.r 0) same (finds-in slots range b bound 0 l open_ low some).1
 
-pub first-looks : (slots : List (Slot Begun)) (range : Ticket) (b : Begun) (bound : ℕ) (l : Lives slots range b) → AllByRecursion (IsSlot bound) slots → bound < 2 ^ 32 → 1 ≤ range.width → look range.first slots ≡ Unlocked l.r 0
+pub first-looks : (slots : List (Slot Begun)) (range : Ticket) (b : Begun) (bound : ℕ) (l : Lives slots range b) → AllByRecursion (IsSlot bound) slots → bound < 2 ^ 32 → 1 ≤ width_of range → look range.first slots ≡ Unlocked l.r 0
 first-looks slots range b bound l open_ low some = look-at range.first slots (Taken l.r) (ap (λ o. slot_at o slots) l.here ∙ l.at) ∙ first-finds slots range b bound l open_ low some
 
 pub left_by-low : (r : Range Begun) → r.first + r.size ≤ 2 ^ 32 - 1024 → left_by r ≡ Vacant (r.first + r.size)
 left_by-low r h = let low : leb (r.first + r.size) (2 ^ 32 - 1024) ≡ true = grind (arith, nat_tests) in ap (λ b. if b then Vacant (r.first + r.size) else Retired) low
 
 join-lives-if : (o : Option End) (reached : ℕ) (slots : List (Slot Begun)) (entries : List (ℕ × Option Ticket)) (call : ℕ) (range : Ticket) (b : Begun) → end_of (finished reached b).state ≡ o → IsSound slots entries → length entries ≤ 500000
-    → lookup (nat_eq call) entries ≡ Some (Some range) → value_says (look range.first slots) ≡ Some b → (l : Lives slots range b) → (finished reached b).call ≡ call
+    → lookup (nat_eq call) entries ≡ Some (Some range) → value_says (look range.first slots) ≡ Some b → (l : Lives slots range b) → IsNumbered call range (Some (finished reached b))
     → join reached (version_of range.first) (Taken l.r) ≡ joined_to o (finished reached b) l.r → Follows slots (change l.slot (join reached (version_of range.first)) slots) entries call (joined reached)
 join-lives-if None reached slots entries call range b end sound few found value l number is =
     let known = known-of slots call (Some range) entries sound.known found in
@@ -59,19 +60,17 @@ join-lives-if None reached slots entries call range b end sound few found value 
     let looks = visited-looks range slots b (finished reached b) l known.0 in
     let step : joined reached (begun b) ≡ begun (finished reached b) = ap (stand_joined (finished reached b)) end in
     let later : IsLater l.r.value (finished reached b) = subst (λ c. IsLater c (finished reached b)) (sym l.value) (finished-later reached b) in
-    stepped slots entries call range b (join reached (version_of range.first)) (Taken (visited l.r (finished reached b))) (joined reached) sound found value l is (refl, refl, later.issues)
-    (later-range (most entries) l.r (visited l.r (finished reached b)) later refl refl refl top)
-    (step ∙ ap (stand call) (sym looks)) (inl (l.version, l.width)) (subst (IsNumbered call) (sym looks) number) (ap is_begun step)
+    stepped slots entries call range b (join reached (version_of range.first)) (Taken (visited l.r (finished reached b))) (joined reached) sound found value l is (refl, refl)
+    (later-range (most entries) l.r (visited l.r (finished reached b)) later refl refl refl (subst (λ c. IsFit l.r.size (finished reached c)) l.value (finished-fit l.r.size reached l.r.value top.fit)) top)
+    (step ∙ ap (stand call) (sym looks)) (inl (l.version, l.width)) (subst (IsNumbered call range) (sym looks) number) (ap is_begun step)
 join-lives-if (Some e) reached slots entries call range b end sound few found value l number is =
     let top = slot-of-all (IsSlot (most entries)) l.slot slots (Taken l.r) sound.open_slots l.at in
     let below = top.below in
-    let wide = range-wide (most entries) l.r top in
-    let few_attempts = top.few_attempts in
     let left = left_by-low l.r (omega (arith, below, few)) in
     let w = l.width in
     let v = l.version in
-    let step : joined reached (begun b) ≡ told_of call = ap (stand_joined (finished reached b)) end ∙ ap told_of number in
-    stepped slots entries call range b (join reached (version_of range.first)) (Vacant (l.r.first + l.r.size)) (joined reached) sound found value l (is ∙ left) (refl, omega (arith, wide, few_attempts)) below
+    let step : joined reached (begun b) ≡ told_of call = ap (stand_joined (finished reached b)) end ∙ ap told_of number.0 in
+    stepped slots entries call range b (join reached (version_of range.first)) (Vacant (l.r.first + l.r.size)) (joined reached) sound found value l (is ∙ left) refl below
     step (omega (arith, v, w)) tt (ap is_begun step)
 
 join-lives : (reached : ℕ) (slots : List (Slot Begun)) (entries : List (ℕ × Option Ticket)) (call : ℕ) (range : Ticket) (b : Begun) → IsSound slots entries → length entries ≤ 500000
@@ -85,7 +84,9 @@ join-lives reached slots entries call range b sound few found value =
     let g = join reached (version_of range.first) in
     let is : g (Taken l.r) ≡ joined_to (end_of (finished reached b).state) (finished reached b) l.r =
     ap (λ x. join_by reached x (Taken l.r)) here ∙ ap (λ c. joined_to (end_of (finished reached c).state) (finished reached c) l.r) l.value in
-    let number : (finished reached b).call ≡ call = finish-call (most_marks b.plan) reached b ∙ subst (IsNumbered call) value known.2 in
+    let own : IsNumbered call range (Some b) = subst (IsNumbered call range) value known.2 in
+    let later = finished-later reached b in
+    let number : IsNumbered call range (Some (finished reached b)) = (later.number ∙ own.0, later.plan ∙ own.1) in
     let s = join-lives-if (end_of (finished reached b).state) reached slots entries call range b refl sound few found value l number is in
     let finds : find (is_call call) (standings slots entries) ≡ Some (begun b) = find-standing slots call entries sound.known ∙ ap (option_map (standing_at slots call)) found ∙ ap (λ x. Some (stand call x)) value in
     let says : join_says reached (look range.first slots) ≡ Some ((finish reached b).0, join_end (finished reached b) (end_of (finished reached b).state)) =
@@ -108,7 +109,7 @@ join-over-step reached slots entries call range sound few found none =
     let stands = over-standing slots entries call range sound.known found none in
     let idle = change_first-nothing (is_call call) (joined reached) (standings slots entries) (idle-if (joined reached) (told_of call) _ stands refl) in
     record {
-      follows = subst (λ after. Follows slots after entries call (joined reached)) (sym same) (record { stands = sym idle; sound = sound; past = λ id h. h; size = refl });
+      follows = subst (λ after. Follows slots after entries call (joined reached)) (sym same) (record { stands = sym idle; sound = sound; size = refl });
       moment = ap (joined_moment reached) stands ∙ sym (ap (λ x. moment_or reached (join_says reached x)) nothing);
       tells = ap (join_tells reached) stands ∙ sym (ap (λ x. tells_or call (join_says reached x) ∷ []) nothing);
     }

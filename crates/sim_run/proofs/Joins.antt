@@ -1,19 +1,21 @@
 -- A join locks the call's range, takes the call's marks, and lets the range go or ends it.
-use Rattle.std.proofs.Common.{◌≡◌, ◌≢◌, ℕ, ◌-◌, ◌≤◌, ◌==◌, Bool, true, false, not, List, [], Option, None, Some, is_some, ap, sym, refl, ◌∙◌, subst}
+use Rattle.std.proofs.Common.{◌≡◌, ◌≢◌, ℕ, zero, suc, ◌+◌, ◌-◌, ◌*◌, ◌/◌, ◌^◌, ◌<◌, ◌≤◌, ◌==◌, arith, length, slice_get, ◌∷◌, Bool, true, false, not, List, [], Option, None, Some, is_some, ap, sym, refl, ◌∙◌, subst}
 use Rattle.std.specs.Option.{option_map}
 use Rattle.rpc_model.specs.declared.event.End.{End}
 use Rattle.rpc_model.specs.declared.told.Told.TheVariants.{Unended}
-use Rattle.sim_run.specs.PlainMachine.{end_of}
-use Rattle.sim_run.specs.PlainMarks.{Begun}
-use Rattle.sim_run.specs.PlainTold.{join_end}
+use Rattle.rpc_model.specs.State.{end_of}
+use Rattle.rpc_model.specs.Marks.{Begun}
+use Rattle.rpc_model.specs.Told.{join_end}
 use Rattle.id_pool.specs.Ids.{slot_of, version_of}
 use Rattle.id_pool.specs.Ranges.{Slot, Vacant, Retired, Taken, Range, Standing, Free, Held, Ended, Seen, Nothing, Unlocked, Locked, Over, offset, seen, seen_at, seen_in, look, own, owned_at, owned_in, slot_at, changed, locked, locked_by, destroyed, destroyed_by, collected, collected_by, held, stands, with_value}
 use Rattle.id_pool.specs.Answers.{lock_says, value_says}
 use Rattle.id_pool.specs.declared.answers.Lock.TheVariants.{Yes}
 use Rattle.sim_run.specs.declared.slots.Finished.{Finished}
 use Rattle.sim_run.specs.Link.{Link}
-use Rattle.sim_run.specs.Sends.{issue_found, issue_by, FoundMayIssue, LookMayIssue}
-use Rattle.sim_run.specs.Slots.{visit, visit_by, touch, touch_by, finished, finished_of, joined_to, join_range, join, join_by, join_says}
+use Rattle.timer_core.specs.declared.mark.Mark.{Mark}
+use Rattle.sim_run.specs.Acting.{Acting}
+use Rattle.sim_run.specs.Slots.{visit, visit_by, touch, touch_by, finished, finished_of, joined_to, join_range, join, join_by, join_says, IsJoinedEarly, acts_found, acts_by}
+use Rattle.sim_run.proofs.Apart.{high_half}
 use Rattle.sim_run.proofs.Changes.{changed-twice, changed-alike, look-at, seen-taken, slot_at-change}
 
 -- the id finds this range unlocked, at this offset
@@ -178,24 +180,41 @@ joins-open reached id k slots done j over = no_end _ (sym (ap (λ (d : Finished)
 pub joins-over : (reached id k : ℕ) (slots : List (Slot Begun)) (done : Finished) (j : Joins reached id k slots done) → done.over ≡ true → (end : End) × (end_of (finished reached j.range.value).state ≡ Some end)
 joins-over reached id k slots done j over = some_end _ (sym (ap (λ (d : Finished). d.over) j.is) ∙ over)
 
--- ---- the attempts that go out meanwhile
+-- ---- what it does meanwhile
 
--- The call that is found locked may issue what it might issue unlocked.
-pub locked-may : (id k : ℕ) (slots now : List (Slot Begun)) (wires : List Link) → LookMayIssue id slots wires → lock_says (look id slots) ≡ Yes k → now ≡ changed (locked (version_of id)) id slots → FoundMayIssue (id - k) (value_says (look id now)) wires
-locked-may id k slots now wires may locks is =
-    let f = finds id k slots locks in
-    let value : value_says (look id now) ≡ Some f.0.value = ap (λ (ss : List (Slot Begun)). value_says (look id ss)) is ∙ locked-value id k slots f.0 f.1 in
-    subst (λ o. FoundMayIssue (id - k) o wires) (sym value) (may f.0 k (finds-look id k slots f.0 f.1)).1
+-- The call that is found locked does what the call does that was found unlocked.
+pub locked-acts : (f : ℕ → Acting → Acting) (id k : ℕ) (slots now : List (Slot Begun)) (wires : List Link) (marks : List Mark) → lock_says (look id slots) ≡ Yes k → now ≡ changed (locked (version_of id)) id slots
+    → acts_found (id - k) f (value_says (look id now)) wires marks ≡ acts_by id f (look id slots) wires marks
+locked-acts f id k slots now wires marks locks is =
+    let found = finds id k slots locks in
+    let value : value_says (look id now) ≡ Some found.0.value = ap (λ (ss : List (Slot Begun)). value_says (look id ss)) is ∙ locked-value id k slots found.0 found.1 in
+    ap (λ o. acts_found (id - k) f o wires marks) value ∙ sym (ap (λ x. acts_by id f x wires marks) (finds-look id k slots found.0 found.1))
 
--- What it issues goes out.
-pub locked-issue : (h : Begun → Begun) (id k : ℕ) (slots now : List (Slot Begun)) (wires : List Link) → lock_says (look id slots) ≡ Yes k → now ≡ changed (locked (version_of id)) id slots → issue_found (id - k) h (value_says (look id now)) wires ≡ issue_by id h (look id slots) wires
-locked-issue h id k slots now wires locks is =
-    let f = finds id k slots locks in
-    let value : value_says (look id now) ≡ Some f.0.value = ap (λ (ss : List (Slot Begun)). value_says (look id ss)) is ∙ locked-value id k slots f.0 f.1 in
-    ap (λ o. issue_found (id - k) h o wires) value ∙ sym (ap (λ x. issue_by id h x wires) (finds-look id k slots f.0 f.1))
+-- Where nothing is locked nothing is done.
+pub acts-none : (id : ℕ) (f : ℕ → Acting → Acting) (x : Seen Begun) (wires : List Link) (marks : List Mark) → ((k : ℕ) → lock_says x ≢ Yes k) → (wires, marks) ≡ acts_by id f x wires marks
+acts-none id f Nothing wires marks none = refl
+acts-none id f (Unlocked r k) wires marks none = absurd (none k refl)
+acts-none id f (Locked r k waiting) wires marks none = refl
 
--- Where nothing is locked nothing goes out.
-pub issue-none : (id : ℕ) (h : Begun → Begun) (x : Seen Begun) (wires : List Link) → ((k : ℕ) → lock_says x ≢ Yes k) → wires ≡ issue_by id h x wires
-issue-none id h Nothing wires none = refl
-issue-none id h (Unlocked r k) wires none = absurd (none k refl)
-issue-none id h (Locked r k waiting) wires none = refl
+-- An id that could be locked is low, where slots are few.
+pub locked-low : (id k : ℕ) (slots : List (Slot Begun)) → length slots ≤ 4096 → lock_says (look id slots) ≡ Yes k → id < 2 ^ 63
+locked-low id k slots few locks =
+    let found = finds id k slots locks in
+    by (slot_of id) refl found.1.at
+  where
+    within : (i : ℕ) (xs : List (Slot Begun)) (x : Slot Begun) → slice_get xs i ≡ Some x → i < length xs
+    within i [] x e = absurd (cc)
+    within zero (y ∷ ys) x e = omega arith
+    within (suc i) (y ∷ ys) x e = let tail = within i ys x e in omega (arith, tail)
+
+    by : (o : Option ℕ) → slot_of id ≡ o → {r : Slot Begun} → slot_at o slots ≡ Some r → id < 2 ^ 63
+    by None e at = absurd (cc)
+    by (Some i) e {r} at = let h = high_half (id / 2 ^ 32) i e in let w = within i slots r at in omega (arith, h, w, few)
+
+-- The call that is found locked reaches what it reaches unlocked.
+pub locked-early : (reached id k : ℕ) (slots now : List (Slot Begun)) → IsJoinedEarly reached (value_says (look id slots)) → lock_says (look id slots) ≡ Yes k → now ≡ changed (locked (version_of id)) id slots → IsJoinedEarly reached (value_says (look id now))
+locked-early reached id k slots now early locks is =
+    let found = finds id k slots locks in
+    let value : value_says (look id now) ≡ Some found.0.value = ap (λ (ss : List (Slot Begun)). value_says (look id ss)) is ∙ locked-value id k slots found.0 found.1 in
+    let before : value_says (look id slots) ≡ Some found.0.value = ap value_says (finds-look id k slots found.0 found.1) in
+    subst (IsJoinedEarly reached) (before ∙ sym value) early

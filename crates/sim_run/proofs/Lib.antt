@@ -1,11 +1,14 @@
+pub mod Fit
 pub mod Later
-pub mod Due
+pub mod Acts
 pub mod Changes
 pub mod Joins
 pub mod Apart
 pub mod Entries
 pub mod Steps
 pub mod JoinSteps
+pub mod Brings
+pub mod JoinMarked
 pub mod Begins
 pub mod Streams
 pub mod Ready
@@ -13,11 +16,6 @@ pub mod Replies
 pub mod JoinReady
 pub mod NewCalls
 pub mod Turns
-pub mod Marks
-pub mod Sends
-pub mod Wired
 pub mod Marked
-pub mod Brings
-pub mod JoinWired
 pub mod Reaching
 pub mod Moved

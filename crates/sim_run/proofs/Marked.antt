@@ -5,9 +5,9 @@ use Rattle.std.specs.List.{AllByRecursion}
 use Rattle.std.specs.Map.{lookup}
 use Rattle.rpc_model.specs.declared.chan.LeafChan.{LeafChan}
 use Rattle.rpc_model.specs.declared.codes.TheConstants.{ERPCTIMEDOUT, EBACKUPREQUEST}
-use Rattle.sim_run.specs.PlainPlan.{leaf_plan}
+use Rattle.rpc_model.specs.Plan.{leaf_plan}
 use Rattle.sim_run.specs.PlainMachine.{Mark as Waits, deadline, backup, mark_after}
-use Rattle.sim_run.specs.PlainMarks.{Begun, begin}
+use Rattle.rpc_model.specs.Marks.{Begun, begin}
 use Rattle.id_pool.specs.Ids.{make_id}
 use Rattle.id_pool.specs.Ranges.{Slot, Vacant, Retired, Taken, Range, change, fresh}
 use Rattle.timer_core.specs.declared.mark.Mark.{Mark}

@@ -2,10 +2,10 @@
 use Rattle.std.proofs.Common.{◌≡◌, ℕ, ◌≤◌, nat_le, List, count_by, Option, None, Some, Result, Ok, Err, OnOk, ap, sym, refl, ◌∙◌, arith}
 use Rattle.rpc_model.specs.declared.event.Event.{Event}
 use Rattle.rpc_model.specs.declared.script.Script.{Script}
-use Rattle.sim_run.specs.PlainPlan.{Plan}
-use Rattle.sim_run.specs.PlainTold.{Replay, is_begun, is_full, call_after, call_event, call_tells}
-use Rattle.sim_run.specs.PlainEarly.{settled, AreSparse}
-use Rattle.sim_run.proofs.PlainEarly.{event-line, call-line, count-settled}
+use Rattle.rpc_model.specs.Plan.{Plan}
+use Rattle.rpc_model.specs.Told.{Replay, is_begun, is_full, call_after, call_event, call_tells}
+use Rattle.rpc_model.specs.Early.{settled, AreSparse}
+use Rattle.rpc_model.proofs.Early.{event-line, call-line, count-settled}
 
 -- What follows from a clause that holds where a call answers `Ok`.
 pub on_ok : {A E : Type 0} (P Q : Type 0) (r : Result A E) → (P → Q) → OnOk r P → OnOk r Q

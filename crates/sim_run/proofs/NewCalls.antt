@@ -9,11 +9,11 @@ use Rattle.std.specs.Option.{option_map}
 use Rattle.rpc_model.specs.declared.chan.LeafChan.{LeafChan}
 use Rattle.rpc_model.specs.declared.script.Script.{Script}
 use Rattle.rpc_model.specs.Limits.{IsLeaf}
-use Rattle.sim_run.specs.PlainPlan.{Plan, leaf_plan, plan}
-use Rattle.sim_run.specs.PlainMarks.{Begun, begin}
+use Rattle.rpc_model.specs.Plan.{Plan, leaf_plan, plan}
+use Rattle.rpc_model.specs.Marks.{Begun, begin}
 use Rattle.rpc_model.specs.declared.told.Told.TheVariants.{Full as TellsFull}
-use Rattle.sim_run.specs.PlainTold as spec
-use Rattle.sim_run.specs.PlainTold.{begun, full}
+use Rattle.rpc_model.specs.Told as spec
+use Rattle.rpc_model.specs.Told.{begun, full}
 use Rattle.id_pool.specs.Ids.{make_id, slot_of, version_of}
 use Rattle.id_pool.proofs.Ids.{slot_of-make_id, version_of-make_id, make_id-plus}
 use Rattle.id_pool.specs.Ranges.{Slot, Vacant, Taken, is_width, lowest, created, created_at, change, fresh, slot_at}
@@ -21,7 +21,7 @@ use Rattle.link_core.specs.Outstanding.{is_outstanding, call_of}
 use Rattle.sim_run.specs.declared.ticket.Ticket.{Ticket}
 use Rattle.sim_run.specs.declared.state.Replay.{Replay}
 use Rattle.sim_run.specs.Link.{Link}
-use Rattle.sim_run.proofs.PlainEarly.{begin-sparse}
+use Rattle.rpc_model.proofs.Early.{begin-sparse}
 use Rattle.sim_run.specs.Wires.{IsChangedAt, sent, server_on}
 use Rattle.sim_run.specs.Sends.{server_in}
 use Rattle.sim_run.specs.Marked.{AreMarked, with_marks}

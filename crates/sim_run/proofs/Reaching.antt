@@ -4,10 +4,10 @@ use Rattle.std.specs.List.{AllByRecursion}
 use Rattle.std.specs.Map.{lookup}
 use Rattle.rpc_model.specs.declared.script.Script.{Script}
 use Rattle.sim_run.specs.PlainMachine.{Mark as Waits}
-use Rattle.sim_run.specs.PlainMarks.{Begun, weave}
-use Rattle.sim_run.specs.PlainTold.{Standing, begun, change_first, is_call}
-use Rattle.sim_run.specs.PlainEarly.{settle, settled, IsSparse, AreSparse}
-use Rattle.sim_run.proofs.PlainEarly.{settle-twice}
+use Rattle.rpc_model.specs.Marks.{Begun, weave}
+use Rattle.rpc_model.specs.Told.{Standing, begun, change_first, is_call}
+use Rattle.rpc_model.specs.Early.{settle, settled, IsSparse, AreSparse}
+use Rattle.rpc_model.proofs.Early.{settle-twice}
 use Rattle.id_pool.specs.Ids.{make_id, slot_of, version_of}
 use Rattle.id_pool.proofs.Ids.{slot_of-make_id}
 use Rattle.id_pool.specs.Ranges.{Slot, Taken, Range, Standing as Standing', Free, offset, seen_at, look, slot_at, change, change_at, changed}

@@ -4,8 +4,8 @@ use Rattle.std.specs.List.{IsDistinct, AllByRecursion}
 use Rattle.std.specs.Map.{lookup}
 use Rattle.rpc_model.specs.declared.event.Event.{Event}
 use Rattle.rpc_model.specs.declared.script.Script.{Script}
-use Rattle.sim_run.specs.PlainMarks.{Begun, weave}
-use Rattle.sim_run.specs.PlainTold as spec
+use Rattle.rpc_model.specs.Marks.{Begun, weave}
+use Rattle.rpc_model.specs.Told as spec
 use Rattle.id_pool.specs.Ids.{version_of}
 use Rattle.id_pool.specs.Ranges.{Slot, Vacant, Taken, Range, changed, look, opened}
 use Rattle.sim_run.specs.declared.ticket.Ticket.{Ticket}
@@ -13,13 +13,13 @@ use Rattle.sim_run.specs.declared.state.Replay.{Replay}
 use Rattle.timer_core.specs.declared.mark.Mark.{Mark}
 use Rattle.sim_run.specs.Link.{Link}
 use Rattle.sim_run.specs.declared.turn.Turn.TheVariants as turn
-use Rattle.sim_run.specs.Slots.{visit, turned}
-use Rattle.sim_run.specs.Sends.{issue_by, LookMayIssue}
-use Rattle.sim_run.specs.Marked.{AreMarked, AreFirstIds, AreSettled}
-use Rattle.sim_run.specs.Desk.{is_taken, IsSlot, IsServed, IsSound, IsWire, IsWired, IsReady, replay_of, ticket_in}
+use Rattle.sim_run.specs.Slots.{visit, turned, acts_by}
+use Rattle.sim_run.specs.Acting.{turned_by}
+use Rattle.sim_run.specs.Marked.{AreMarked, AreSettled}
+use Rattle.sim_run.specs.Desk.{is_taken, IsSlot, IsSound, IsReady, replay_of, ticket_in, width_of}
 use Rattle.sim_run.proofs.Entries.{count-cons, known-of}
 use Rattle.sim_run.proofs.Steps.{Follows, IsSettledAt, most, lives, event-changes, event-nothing}
-use Rattle.sim_run.proofs.Brings.{Brings, brings, brings-may}
+use Rattle.sim_run.proofs.Brings.{Brings, brings, turn-does}
 
 -- ---- a new replay
 
@@ -45,23 +45,10 @@ opened-sound n entries none = rw none (record {
   counted = sym (opened-taken n);
 })
 
--- Wires on which nothing went out fit new slots.
-opened-served : (servers n : ℕ) → AllByRecursion (IsServed servers) (opened {T = Begun} n)
-opened-served servers zero = tt
-opened-served servers (suc n) = (tt, opened-served servers n)
-
 opened-vacant : (n i : ℕ) (r : Range Begun) → slice_get (opened {T = Begun} n) i ≢ Some (Taken r)
 opened-vacant zero i r e = cc
 opened-vacant (suc n) zero r e = cc
 opened-vacant (suc n) (suc i) r e = opened-vacant n i r e
-
-pub opened-wired : (servers n : ℕ) (slots : List (Slot Begun)) (wires : List Link) → slots ≡ opened n → length wires ≡ servers → AllByRecursion (IsWire slots) wires → IsWired servers slots wires
-opened-wired servers n slots wires is size waiting = record {
-  size = size;
-  waiting = waiting;
-  served = rw is (opened-served servers n);
-  sent = λ slot r at k less. absurd (opened-vacant n slot r (sym (ap (λ (ss : List (Slot Begun)). slice_get ss slot) is) ∙ at));
-}
 
 pub opened-marked : (n : ℕ) (slots : List (Slot Begun)) (marks : List Mark) → slots ≡ opened n → AreMarked marks slots
 opened-marked n slots marks is slot r at = absurd (opened-vacant n slot r (sym (ap (λ (ss : List (Slot Begun)). slice_get ss slot) is) ∙ at))
@@ -69,15 +56,15 @@ opened-marked n slots marks is slot r at = absurd (opened-vacant n slot r (sym (
 -- ---- one call's step
 
 -- A step of one call leaves a replay ready.
-pub ready-brings : (script : Script) (old new : Replay) (call : ℕ) (f : spec.Standing → spec.Standing) → IsReady script old → Brings script.servers old.pool new.pool new.wires.items new.marks old.calls.entries call f → new.calls ≡ old.calls
-    → AreFirstIds old.calls.entries new.marks → IsReady script new
-ready-brings script old new call f ready brought calls marks = record {
+pub ready-brings : (script : Script) (old new : Replay) (call : ℕ) (f : spec.Standing → spec.Standing) → IsReady script old → Brings old.pool new.pool new.marks old.calls.entries call f → new.calls ≡ old.calls
+    → length new.wires.items ≡ length old.wires.items → IsReady script new
+ready-brings script old new call f ready brought calls wires = record {
   sound = rw calls brought.follows.sound;
   pool = brought.follows.size ∙ ready.pool;
-  wired = brought.wired;
-  channels = rw calls ready.channels;
+  wires = wires ∙ ready.wires;
   marked = brought.marked;
-  marks = rw calls marks;
+  owned = rw calls brought.owned;
+  served = rw calls ready.served;
 }
 
 -- An event leaves the plain machine's replay after it.
@@ -102,26 +89,19 @@ settled-at moment slots entries call ticket settled sound found b value =
     subst (λ c. weave moment c ≡ c) l.value (settled l.slot l.r l.at)
 
 -- An event that comes by the call's own id.
-pub own-event : (script : Script) (old : Replay) (after : List (Slot Begun)) (wires : List Link) (call : ℕ) (ticket : Ticket) (event : Event) → IsReady script old → length old.calls.entries ≤ 500000 → AreSettled old.reached old.pool
-    → Some ticket ≡ ticket_in (lookup (nat_eq call) old.calls.entries) → after ≡ changed (visit (turned (turn.Event event)) (version_of ticket.first)) ticket.first old.pool
-    → wires ≡ issue_by ticket.first (turned (turn.Event event)) (look ticket.first old.pool) old.wires.items → Brings script.servers old.pool after wires old.marks old.calls.entries call (spec.event_after event old.reached)
-own-event script old after wires call ticket event ready few settled found is out =
+pub own-event : (script : Script) (old : Replay) (after : List (Slot Begun)) (wires : List Link) (marks : List Mark) (call : ℕ) (ticket : Ticket) (event : Event) → IsReady script old → length old.calls.entries ≤ 500000 → AreSettled old.reached old.pool
+    → Some ticket ≡ ticket_in (lookup (nat_eq call) old.calls.entries) → after ≡ changed (visit (turned (turn.Event event old.reached)) (version_of ticket.first)) ticket.first old.pool
+    → (wires, marks) ≡ acts_by ticket.first (turned_by (turn.Event event old.reached)) (look ticket.first old.pool) old.wires.items old.marks → Brings old.pool after marks old.calls.entries call (spec.event_after event old.reached)
+own-event script old after wires marks call ticket event ready few settled found is out =
     let looked = some_ticket (lookup (nat_eq call) old.calls.entries) ticket (sym found) in
     let known = known-of old.pool call (Some ticket) old.calls.entries ready.sound.known looked in
     let same : ticket.first + 0 ≡ ticket.first = omega arith in
-    let h = turned (turn.Event event) in
+    let t = turn.Event event old.reached in
     let f = spec.event_after event old.reached in
     let does = event-changes old.pool ticket event old.reached (settled-at old.reached old.pool old.calls.entries call ticket settled ready.sound looked) in
-    let moved = brings script.servers old.pool old.wires.items old.marks old.calls.entries call ticket h f 0 does ready.sound few looked known.0 ready.wired ready.marked in
-    rw (is, out) (subst (λ id. Brings script.servers old.pool (changed (visit h (version_of id)) id old.pool) (issue_by id h (look id old.pool) old.wires.items) old.marks old.calls.entries call f) same moved)
-
--- It may issue attempts meanwhile.
-pub own-may : (script : Script) (old : Replay) (call : ℕ) (ticket : Ticket) → IsReady script old → length old.calls.entries ≤ 500000 → script.slots ≤ 4096 → lookup (nat_eq call) old.calls.entries ≡ Some (Some ticket) → LookMayIssue ticket.first old.pool old.wires.items
-own-may script old call ticket ready few slots looked =
-    let known = known-of old.pool call (Some ticket) old.calls.entries ready.sound.known looked in
-    let same : ticket.first + 0 ≡ ticket.first = omega arith in
-    let n = ready.pool in
-    subst (λ id. LookMayIssue id old.pool old.wires.items) same (brings-may script.servers old.pool old.wires.items old.calls.entries call ticket 0 ready.sound few looked known.0 ready.wired (omega (arith, n, slots)))
+    let moved = brings old.pool old.wires.items old.marks old.calls.entries call ticket (turned_by t) (turned t) f 0 (turn-does t) does ready.sound few looked known.0 ready.marked ready.owned in
+    let set : marks ≡ (acts_by ticket.first (turned_by t) (look ticket.first old.pool) old.wires.items old.marks).1 = ap (λ (p : List Link × List Mark). p.1) out in
+    rw (is, set) (subst (λ id. Brings old.pool (changed (visit (turned t) (version_of id)) id old.pool) (acts_by id (turned_by t) (look id old.pool) old.wires.items old.marks).1 old.calls.entries call f) same moved)
 
 -- An event of a call without a ticket.
 pub no-event : (script : Script) (old : Replay) (call : ℕ) (event : Event) (moment : ℕ) → IsReady script old → None ≡ ticket_in (lookup (nat_eq call) old.calls.entries)
@@ -129,6 +109,5 @@ pub no-event : (script : Script) (old : Replay) (call : ℕ) (event : Event) (mo
 no-event script old call event moment ready none = record {
   stands = event-nothing old.pool old.calls.entries call event moment ready.sound.known (no_ticket (lookup (nat_eq call) old.calls.entries) (sym none));
   sound = ready.sound;
-  past = λ id h. h;
   size = refl;
 }

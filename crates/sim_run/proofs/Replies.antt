@@ -6,8 +6,8 @@ use Rattle.std.specs.List.{AllByRecursion}
 use Rattle.std.specs.Map.{lookup}
 use Rattle.rpc_model.specs.declared.event.Event.{Event}
 use Rattle.rpc_model.specs.declared.script.Script.{Script}
-use Rattle.sim_run.specs.PlainMarks.{Begun}
-use Rattle.sim_run.specs.PlainTold as spec
+use Rattle.rpc_model.specs.Marks.{Begun}
+use Rattle.rpc_model.specs.Told as spec
 use Rattle.id_pool.specs.Ids.{slot_of, version_of}
 use Rattle.id_pool.specs.Ranges.{Slot, Vacant, Retired, Taken, Nothing, look, slot_at, changed}
 use Rattle.id_pool.specs.Answers.{find_says, value_says}
@@ -39,7 +39,7 @@ entry-of P call o ((number, x) ∷ xs) all e = elim (found_if (nat_eq call numbe
 -- where a ticket's ids lie: below the ids of 4,096 slots
 pub record IsLow (ticket : Ticket) : Type 0 where
   pub first : ticket.first < 4097 * 2 ^ 32
-  pub width : ticket.width < 2 ^ 32
+  pub width : width_of ticket < 2 ^ 32
 
 low-slot : (slots : List (Slot Begun)) (ticket : Ticket) (bound : ℕ) (o : Option ℕ) (m : Option (Slot Begun)) → slot_of ticket.first ≡ o → slot_at o slots ≡ m → IsOfSlot ticket m → AllByRecursion (IsSlot bound) slots → bound < 2 ^ 32 → length slots ≤ 4096 → IsLow ticket
 low-slot slots ticket bound None m p q of open_ low few = absurd (let none : m ≡ None = sym q in subst (IsOfSlot ticket) none of)
@@ -50,7 +50,7 @@ low-slot slots ticket bound (Some i) (Some slot) p q of open_ low few =
     let top = slot-of-all (IsSlot bound) i slots slot open_ q in
     record { first = omega (arith, h, within, few); width = by slot of top }
   where
-    by : (slot : Slot Begun) → IsOf ticket slot → IsSlot bound slot → ticket.width < 2 ^ 32
+    by : (slot : Slot Begun) → IsOf ticket slot → IsSlot bound slot → width_of ticket < 2 ^ 32
     by (Vacant next) of top = omega (arith, of, top, low)
     by Retired of top = absurd of
     by (Taken r) (inl own) top = let w = own.1 in let t = top.below in omega (arith, w, t, low)
@@ -65,13 +65,13 @@ ticket-low script old call ticket ready few slots found =
 -- what an attempt's id says of it
 pub record Names (ticket : Ticket) (node attempt id : ℕ) : Type 0 where
   pub root : node ≡ 0
-  pub within : attempt + 1 < ticket.width
+  pub within : attempt + 1 < width_of ticket
   pub is : id ≡ ticket.first + (attempt + 1)
 
 pub names : (ticket : Ticket) (node attempt id : ℕ) → Some id ≡ attempt_id ticket node attempt → Names ticket node attempt id
-names ticket node attempt id e = by (node == 0) (nat_lt (attempt + 1) ticket.width) refl refl e
+names ticket node attempt id e = by (node == 0) (nat_lt (attempt + 1) width_of ticket) refl refl e
   where
-    by : (a b : Bool) → (node == 0) ≡ a → nat_lt (attempt + 1) ticket.width ≡ b → Some id ≡ (if a && b then Some (ticket.first + (attempt + 1)) else None) → Names ticket node attempt id
+    by : (a b : Bool) → (node == 0) ≡ a → nat_lt (attempt + 1) width_of ticket ≡ b → Some id ≡ (if a && b then Some (ticket.first + (attempt + 1)) else None) → Names ticket node attempt id
     by true true p q e = record { root = eqb-true node 0 p; within = grind (arith, nat_tests); is = cc }
     by true false p q e = absurd (cc)
     by false b p q e = absurd (cc)
@@ -84,7 +84,7 @@ record IsBrought (slots : List (Slot Begun)) (wires : List Link) (id attempt : �
   wires_are : brought_wires what id slots wires ≡ issue_by id (turned (turn.Event (what attempt))) (look id slots) wires
 
 is-brought : (slots : List (Slot Begun)) (wires : List Link) (entries : List (ℕ × Option Ticket)) (call : ℕ) (ticket : Ticket) (attempt : ℕ) (what : ℕ → Event) → IsSound slots entries → length entries ≤ 500000
-    → lookup (nat_eq call) entries ≡ Some (Some ticket) → attempt + 1 < ticket.width → IsBrought slots wires (ticket.first + (attempt + 1)) attempt what
+    → lookup (nat_eq call) entries ≡ Some (Some ticket) → attempt + 1 < width_of ticket → IsBrought slots wires (ticket.first + (attempt + 1)) attempt what
 is-brought slots wires entries call ticket attempt what sound few at within = by (value_says (look ticket.first slots)) refl
   where
     by : (x : Option Begun) → value_says (look ticket.first slots) ≡ x → IsBrought slots wires (ticket.first + (attempt + 1)) attempt what
@@ -112,7 +112,7 @@ is-brought slots wires entries call ticket attempt what sound few at within = by
 
 -- What becomes of an attempt does to the calls what the plain machine does. The wires are those after the reply came in, or the attempt was lost.
 pub attempt-brings : (script : Script) (old : Replay) (wires : List Link) (call : ℕ) (ticket : Ticket) (attempt id : ℕ) (what : ℕ → Event) → IsReady script old → length old.calls.entries ≤ 500000 → AreSettled old.reached old.pool
-    → Some ticket ≡ ticket_in (lookup (nat_eq call) old.calls.entries) → attempt + 1 < ticket.width → id ≡ ticket.first + (attempt + 1) → IsWired script.servers old.pool wires
+    → Some ticket ≡ ticket_in (lookup (nat_eq call) old.calls.entries) → attempt + 1 < width_of ticket → id ≡ ticket.first + (attempt + 1) → IsWired script.servers old.pool wires
     → Brings script.servers old.pool (brought what id old.pool) (brought_wires what id old.pool wires) old.marks old.calls.entries call (spec.event_after (what attempt) old.reached)
 attempt-brings script old wires call ticket attempt id what ready few settled found' within is wired =
     let looked = some_ticket (lookup (nat_eq call) old.calls.entries) ticket (sym found') in
@@ -125,7 +125,7 @@ attempt-brings script old wires call ticket attempt id what ready few settled fo
 
 -- It may issue another attempt.
 pub attempt-may : (script : Script) (old : Replay) (wires : List Link) (call : ℕ) (ticket : Ticket) (attempt id : ℕ) → IsReady script old → length old.calls.entries ≤ 500000 → script.slots ≤ 4096
-    → Some ticket ≡ ticket_in (lookup (nat_eq call) old.calls.entries) → attempt + 1 < ticket.width → id ≡ ticket.first + (attempt + 1) → IsWired script.servers old.pool wires → LookMayIssue id old.pool wires
+    → Some ticket ≡ ticket_in (lookup (nat_eq call) old.calls.entries) → attempt + 1 < width_of ticket → id ≡ ticket.first + (attempt + 1) → IsWired script.servers old.pool wires → LookMayIssue id old.pool wires
 attempt-may script old wires call ticket attempt id ready few slots found' within is wired =
     let looked = some_ticket (lookup (nat_eq call) old.calls.entries) ticket (sym found') in
     let n = ready.pool in

@@ -11,11 +11,11 @@ use Rattle.rpc_model.specs.declared.told.Told.{Told}
 use Rattle.std.specs.declared.option.Option.{Option}
 use Rattle.rpc_model.specs.Limits.{IsMoment, moment_of, called}
 use Rattle.rpc_model.specs.Fits.{IsChan}
-use Rattle.sim_run.specs.PlainMoments.{IsBy}
-use Rattle.sim_run.specs.PlainTold.{Replay, after, tells, told_from}
-use Rattle.sim_run.specs.PlainEarly.{settled, AreSparse}
-use Rattle.sim_run.proofs.PlainMomentsStay.{after-by}
-use Rattle.sim_run.proofs.PlainEarly.{tells-same, after-settled}
+use Rattle.rpc_model.specs.Moments.{IsBy}
+use Rattle.rpc_model.specs.Told.{Replay, after, tells, told_from}
+use Rattle.rpc_model.specs.Early.{settled, AreSparse}
+use Rattle.rpc_model.proofs.MomentsStay.{after-by}
+use Rattle.rpc_model.proofs.Early.{tells-same, after-settled}
 use Rattle.sim_run.specs.declared.ticket.Ticket.{Ticket}
 use Rattle.sim_run.specs.Desk.{IsNew, IsFront}
 

@@ -21,7 +21,8 @@ use Rattle.rpc_model.specs.Limits.{called}
 use Rattle.rpc_model.specs.Told as spec
 use Rattle.sim_run.specs.declared.ticket.Ticket.{Ticket}
 use Rattle.sim_run.specs.declared.state.Replay.{Replay}
-use Rattle.sim_run.specs.Marked.{AreMarked}
+use Rattle.rpc_model.specs.Served.{AreServed}
+use Rattle.sim_run.specs.Marked.{AreMarked, AreOwned, IsFit}
 
 -- the plan of a ticket's call, and how many ids it has
 abbrev pub plan_of : Ticket → Plan MapKind MergeKind
@@ -89,6 +90,7 @@ pub record IsRange (bound : ℕ) (r : Range Begun) : Type 0 where
   pub below : r.first + r.size ≤ bound
   pub free : r.standing ≡ Free
   pub sized : r.size ≡ width r.value.plan
+  pub fit : IsFit r.size r.value
 
 -- no slot is retired or locked, and its versions so far are below a bound
 abbrev pub IsSlot : ℕ → Slot Begun → Type 0
@@ -104,6 +106,14 @@ pub record IsSound (slots : List (Slot Begun)) (entries : List (ℕ × Option Ti
   pub open_slots : AllByRecursion (IsSlot (1 + 1024 * length entries)) slots
   pub counted : count_by is_begun (standings slots entries) ≡ count_by is_taken slots
 
+-- each leaf of a ticket's plan has servers, each of which is one of so many
+abbrev pub IsServed : ℕ → Ticket → Type 0
+IsServed servers ticket = AreServed servers (plan_of ticket)
+
+abbrev pub IsServedIn : ℕ → Option Ticket → Type 0
+IsServedIn servers None = Unit {0}
+IsServedIn servers (Some ticket) = IsServed servers ticket
+
 -- the replay stands for the plain machine's: the moment reached, and the calls by their tickets
 abbrev pub replay_of : Replay → spec.Replay
 replay_of replay = record { reached = replay.reached; calls = standings replay.pool replay.calls.entries }
@@ -114,6 +124,8 @@ pub record IsReady (script : Script) (replay : Replay) : Type 0 where
   pub pool : length replay.pool ≡ script.slots
   pub wires : length replay.wires.items ≡ script.servers
   pub marked : AreMarked replay.marks replay.pool
+  pub owned : AreOwned replay.calls.entries replay.marks
+  pub served : AllByRecursion (λ entry. IsServedIn script.servers entry.1) replay.calls.entries
 
 -- the ticket that a look-up finds
 abbrev pub ticket_in : Option (Option Ticket) → Option Ticket

@@ -11,8 +11,9 @@ use crate::open_call::{OpenCall, mark_event};
 use crate::turn::Turn;
 use crate::wire::Wire;
 use crate::wires::send;
+use chan_tree::Plan;
 use rpc_base::{List, NoMemory};
-use rpc_model::{Event, Send};
+use rpc_model::{Event, MapKind, MergeKind, Send};
 use timer_core::Marks;
 
 /// Gives a call what comes to it. The first id is the call's own.
@@ -47,7 +48,7 @@ fn act(
     ensures { OnOk result (acting call.new wires.new.items marks.new ≡ acted first event moment (acting call.old wires.old.items marks.old)) }
 {
     let effects = call.apply(event, moment)?;
-    post(wires, call, first, effects.sends)?;
+    post(wires, call.plan(), call.number(), first, effects.sends)?;
     set_marks(marks, first, effects.marks.list())?;
     Ok(())
 }
@@ -91,19 +92,19 @@ pub(crate) fn finish_call(
     Ok(reached)
 }
 
-/// Sends the requests of a call: each under the id of its attempt, to its own server.
+/// Sends the requests of a call with this plan: each under the id of its attempt, to its own server.
 pub(crate) fn post(
     wires: &mut Vec<Wire>,
-    call: &OpenCall,
+    plan: &Plan<MapKind, MergeKind>,
+    call: u32,
     first: u64,
     sends: List<Send>,
 ) -> Result<(), NoMemory>
     requires { first < 2 ^ 63 }
-    ensures { OnOk result (wires.new.items ≡ posted first call.now.plan call.now.call sends wires.old.items) }
+    ensures { OnOk result (wires.new.items ≡ posted first plan.now call sends wires.old.items) }
 {
-    let number = call.number();
     for request in sends.into_vec() {
-        post_one(wires, call, number, first, request)?;
+        post_one(wires, plan, call, first, request)?;
     }
     Ok(())
 }
@@ -111,20 +112,17 @@ pub(crate) fn post(
 /// Sends a request under the id of its attempt, to its server.
 fn post_one(
     wires: &mut Vec<Wire>,
-    call: &OpenCall,
-    number: u32,
+    plan: &Plan<MapKind, MergeKind>,
+    call: u32,
     first: u64,
     request: Send,
 ) -> Result<(), NoMemory>
     requires { first < 2 ^ 63 }
-    ensures { OnOk result (wires.new.items ≡ posted_one first call.now.plan number request wires.old.items) }
+    ensures { OnOk result (wires.new.items ≡ posted_one first plan.now call request wires.old.items) }
 {
-    let Some(offset) = call
-        .plan()
-        .offset_of_attempt(request.node, request.attempt)
-    else {
+    let Some(offset) = plan.offset_of_attempt(request.node, request.attempt) else {
         return Ok(());
     };
     let id = first + u64::from(offset);
-    send(wires, request.server, id, number, request.payload)
+    send(wires, request.server, id, call, request.payload)
 }

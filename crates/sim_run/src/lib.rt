@@ -5,6 +5,7 @@
 mod acting;
 mod marking;
 mod open_call;
+mod planning;
 mod replaying;
 mod slots;
 mod state;

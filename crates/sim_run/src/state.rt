@@ -1,35 +1,42 @@
-ghost use Rattle.std.specs.Prelude.{◌≡◌, ℕ, ◌+◌, ◌*◌, ◌^◌, ◌<◌, ◌≤◌, List, [], ◌∷◌, ◌++◌, max, nat_eq, length, find, take, Option, None, Some, OnOk, OnErr, IfOk, All, false};
+ghost use Rattle.std.specs.Prelude.{◌≡◌, ℕ, ◌+◌, ◌*◌, ◌^◌, ◌<◌, ◌≤◌, List, [], ◌∷◌, ◌++◌, max, nat_eq, length, find, Option, None, Some, OnOk, OnErr, IfOk};
+ghost use Rattle.std.specs.Arc.{arc_value};
 ghost use Rattle.std.specs.Map.{keys_of, lookup};
-ghost use Rattle.rpc_model.specs.Limits.{IsAct, IsMoment, called};
-ghost use Rattle.rpc_model.specs.Fits.{Fits};
-ghost use Rattle.sim_run.specs.PlainMachine.{server_of};
-ghost use Rattle.sim_run.specs.PlainPlan.{leaf_plan, plan};
-ghost use Rattle.sim_run.specs.PlainTold as spec;
-ghost use Rattle.rpc_model.specs.declared.event.Event.TheVariants as event;
-ghost use Rattle.sim_run.specs.PlainEarly.{settled};
-ghost use Rattle.sim_run.specs.Desk.{IsReady, replay_of, ticket_in, IsNew};
-ghost use Rattle.sim_run.specs.Marked.{AreSettled};
+ghost use Rattle.std.specs.Option.{option_map};
 ghost use Rattle.std.specs.List.{AllByRecursion, IsDistinct};
-ghost use Rattle.link_core.specs.Outstanding.{is_outstanding};
+ghost use Rattle.rpc_model.specs.Limits.{IsAct, called};
+ghost use Rattle.rpc_model.specs.Fits.{Fits, IsNarrow, BeginsNarrow};
+ghost use Rattle.rpc_model.specs.Kinds.{script_kinds};
+ghost use Rattle.rpc_model.specs.Machine.{start};
+ghost use Rattle.rpc_model.specs.Plan.{plan};
+ghost use Rattle.rpc_model.specs.Versions.{width};
+ghost use Rattle.rpc_model.specs.Told as spec;
+ghost use Rattle.rpc_model.specs.declared.event.Event.TheVariants as event;
+ghost use Rattle.rpc_model.specs.Early.{settled};
+ghost use Rattle.call_tree.specs.Running.{IsEffects};
+ghost use Rattle.sim_run.specs.Desk.{IsReady, replay_of, ticket_in, IsNew, plan_of};
+ghost use Rattle.sim_run.specs.Marked.{AreSettled, marked};
+ghost use Rattle.sim_run.specs.Sends.{posted};
 ghost use Rattle.rpc_model.specs.declared.told.Told.TheVariants.{Full as full};
-ghost use Rattle.sim_run.specs.Wires.{IsChangedAt, sent, server_on};
 
+use crate::acting::post;
 use crate::marking::set_marks;
 use crate::open_call::OpenCall;
+use crate::planning::planned;
 use crate::slots::{bring, deliver, join, lose, take_slot};
 use crate::ticket::Ticket;
 use crate::turn::Turn;
 use crate::wire::Wire;
-use crate::wires::{forget, leaf_of, open_wires, receive, send, server_on};
+use crate::wires::{forget, open_wires, receive};
+use call_tree::Effects;
 use id_pool::Pool;
 use indexmap::IndexMap;
-use rpc_base::{Bytes, List, NoMemory};
-use rpc_model::{Act, Event, LeafChan, Script, Told};
+use rpc_base::{Bytes, NoMemory};
+use rpc_model::{Act, Event, Script, Told};
 use std::alloc::Global;
 use timer_core::Marks;
 
 /// The moment reached, in milliseconds; the calls by their numbers, in the order of their lines, `None` where a call found
-/// no slot; the slots; a wire for each server; and the marks of all calls, each with the first id of its call.
+/// no slot; the slots; a wire for each server; and the marks of all calls, each with the id of its node.
 #[derive(Drop)]
 pub(crate) struct Replay {
     reached: u64,
@@ -57,12 +64,12 @@ impl Replay {
     }
 
     /// The ticket of a call that took a slot.
-    fn ticket(&self, call: u32) -> Option<Ticket>
-        ensures { result ≡ ticket_in (lookup (nat_eq call) self.now.calls.entries) }
+    fn ticket(&self, call: u32) -> Option<&Ticket>
+        ensures { option_map (λ t. t.now) result ≡ ticket_in (lookup (nat_eq call) self.now.calls.entries) }
     {
         match self.calls.get(&call) {
             None => None,
-            Some(ticket) => *ticket,
+            Some(ticket) => ticket.as_ref(),
         }
     }
 
@@ -73,6 +80,7 @@ impl Replay {
         requires ready { IsReady script.now self.old }
         requires few { length self.old.calls.entries ≤ 500000 }
         requires later { self.old.reached ≤ moment }
+        requires early { moment < 2 ^ 60 }
         ensures ready { OnOk result (IsReady script.now self.new) }
         ensures settled { OnOk result (AreSettled moment self.new.pool) }
         ensures after { OnOk result (settled (replay_of self.new) ≡ settled (record (replay_of self.old) { reached = moment })) }
@@ -81,7 +89,13 @@ impl Replay {
     {
         self.reached = moment;
         'taken: while let Some(mark) = self.marks.due(moment) {
-            bring(&mut self.pool, &mut self.wires, mark.id, Turn::Due(moment))?;
+            bring(
+                &mut self.pool,
+                &mut self.wires,
+                &mut self.marks,
+                mark.id,
+                Turn::Due(moment),
+            )?;
         }
         Ok(())
     }
@@ -92,6 +106,7 @@ impl Replay {
         requires ready { IsReady script.now self.old }
         requires few { length self.old.calls.entries ≤ 500000 }
         requires settled { AreSettled self.old.reached self.old.pool }
+        requires early { self.old.reached < 2 ^ 60 }
         ensures ready { OnOk result (IsReady script.now self.new) }
         ensures after { OnOk result (replay_of self.new ≡ spec.call_event (replay_of self.old) self.old.reached call event) }
         ensures calls { OnOk result (self.new.calls ≡ self.old.calls) }
@@ -99,16 +114,18 @@ impl Replay {
         let Some(ticket) = self.ticket(call) else {
             return Ok(());
         };
+        let first = ticket.first;
         bring(
             &mut self.pool,
             &mut self.wires,
-            ticket.first,
-            Turn::Event(event),
+            &mut self.marks,
+            first,
+            Turn::Event(event, self.reached),
         )?;
         Ok(())
     }
 
-    /// A call line: the call takes a slot and sends its first attempt, or finds no slot.
+    /// A call line: the call takes a slot and sends its first requests, or finds no slot.
     fn call(
         &mut self,
         alloc: Global,
@@ -123,6 +140,7 @@ impl Replay {
         requires few { length self.old.calls.entries ≤ 500000 }
         requires early { self.old.reached < 2 ^ 60 }
         requires chan { chan < length script.now.chans }
+        requires narrow { IsNarrow (plan script.now.chans chan call) }
         requires new { lookup (nat_eq call) self.old.calls.entries ≡ None }
         ensures ready { OnOk result (IsReady script.now self.new) }
         ensures after { OnOk result (replay_of self.new ≡ spec.call_after script.now (replay_of self.old) self.old.reached call text.now (plan script.now.chans chan call)) }
@@ -130,41 +148,37 @@ impl Replay {
         ensures calls { OnOk result (keys_of self.new.calls.entries ≡ keys_of self.old.calls.entries ++ call ∷ []) }
         ensures kept { OnErr result (told.new.items ≡ told.old.items) }
     {
-        let leaf = leaf_of(script, chan);
-        let width = leaf.retry + 2;
-        let owned = clone_leaf(alloc, leaf)?;
-        let open = OpenCall::begin(alloc, call, owned, clone_bytes(alloc, text)?, self.reached);
+        let plan = planned(alloc, script, chan, call)?;
+        let width = plan.width();
+        let shared = plan.clone()?;
+        let text = clone_bytes(alloc, text)?;
+        let (open, effects) = OpenCall::begin(alloc, call, shared, text, self.reached)?;
         let Some(first) = take_slot(&mut self.pool, width, open) else {
             self.refuse(call, told)?;
             return Ok(());
         };
-        set_marks(&mut self.marks, first, leaf, self.reached)?;
-        let text = clone_bytes(alloc, text)?;
-        self.begin(script, call, Ticket { first, width, chan }, text)?;
+        self.begin(call, Ticket { first, plan }, effects)?;
         Ok(())
     }
 
-    /// A call that took a slot sends its first attempt, whose id is the one behind the call's own.
-    fn begin(
-        &mut self,
-        script: &Script,
-        call: u32,
-        ticket: Ticket,
-        text: Bytes,
-    ) -> Result<(), NoMemory>
-        requires fits { Fits script.now }
-        requires chan { ticket.chan < length script.now.chans }
+    /// A call that took a slot sends its first requests, and sets its first marks.
+    fn begin(&mut self, call: u32, ticket: Ticket, effects: Effects) -> Result<(), NoMemory>
         requires id { ticket.first < 2 ^ 63 }
-        requires servers { length self.old.wires.items ≡ script.now.servers }
-        requires silent { AllByRecursion (λ w. is_outstanding (ticket.first + 1) w.waiting ≡ false) self.old.wires.items }
         requires new { lookup (nat_eq call) self.old.calls.entries ≡ None }
-        ensures sent { OnOk result (IsChangedAt (server_on script.now.chans ticket.chan call 0) (sent (ticket.first + 1) call text) self.old.wires.items self.new.wires.items) }
+        ensures sent { OnOk result (self.new.wires.items ≡ posted ticket.first (plan_of ticket) call effects.sends self.old.wires.items) }
+        ensures marks { OnOk result (self.new.marks ≡ marked ticket.first effects.marks self.old.marks) }
         ensures calls { OnOk result (self.new.calls.entries ≡ self.old.calls.entries ++ (call, Some ticket) ∷ []) }
         ensures once { OnOk result (IsDistinct nat_eq (keys_of self.new.calls.entries)) }
-        ensures same { (self.new.pool ≡ self.old.pool) × (self.new.reached ≡ self.old.reached) × (self.new.marks ≡ self.old.marks) }
+        ensures same { (self.new.pool ≡ self.old.pool) × (self.new.reached ≡ self.old.reached) }
     {
-        let server = server_on(script, ticket.chan, call, 0);
-        send(&mut self.wires, server, ticket.first + 1, call, text)?;
+        post(
+            &mut self.wires,
+            &ticket.plan,
+            call,
+            ticket.first,
+            effects.sends,
+        )?;
+        set_marks(&mut self.marks, ticket.first, effects.marks.list())?;
         self.calls.insert(call, Some(ticket))?;
         Ok(())
     }
@@ -198,6 +212,7 @@ impl Replay {
         requires ready { IsReady script.now self.old }
         requires few { length self.old.calls.entries ≤ 500000 }
         requires settled { AreSettled self.old.reached self.old.pool }
+        requires early { self.old.reached < 2 ^ 60 }
         requires code { code ≤ 65535 }
         requires text { length text.now ≤ 60000 }
         ensures ready { OnOk result (IsReady script.now self.new) }
@@ -207,7 +222,7 @@ impl Replay {
         let Some(ticket) = self.ticket(call) else {
             return Ok(());
         };
-        let Some(id) = ticket.attempt_id(node, attempt) else {
+        let Some(aim) = ticket.aim(call, node, attempt, script.servers) else {
             // It names no attempt of the call's plan, and so no id by which a frame could come.
             let text = clone_bytes(alloc, text)?;
             let event = Event::Reply {
@@ -219,9 +234,14 @@ impl Replay {
             self.event(script, call, event)?;
             return Ok(());
         };
-        let server = server_on(script, ticket.chan, call, attempt);
-        let reply = receive(&mut self.wires, server, id, code, text)?;
-        deliver(&mut self.pool, &mut self.wires, reply)?;
+        let reply = receive(&mut self.wires, aim.server, aim.id, code, text)?;
+        deliver(
+            &mut self.pool,
+            &mut self.wires,
+            &mut self.marks,
+            reply,
+            self.reached,
+        )?;
         Ok(())
     }
 
@@ -238,6 +258,7 @@ impl Replay {
         requires ready { IsReady script.now self.old }
         requires few { length self.old.calls.entries ≤ 500000 }
         requires settled { AreSettled self.old.reached self.old.pool }
+        requires early { self.old.reached < 2 ^ 60 }
         ensures ready { OnOk result (IsReady script.now self.new) }
         ensures after { OnOk result (replay_of self.new ≡ spec.call_event (replay_of self.old) self.old.reached call (event.Lost node attempt code)) }
         ensures calls { OnOk result (self.new.calls ≡ self.old.calls) }
@@ -245,7 +266,7 @@ impl Replay {
         let Some(ticket) = self.ticket(call) else {
             return Ok(());
         };
-        let Some(id) = ticket.attempt_id(node, attempt) else {
+        let Some(aim) = ticket.aim(call, node, attempt, script.servers) else {
             // It names no attempt of the call's plan, and so no id.
             let event = Event::Lost {
                 node,
@@ -255,9 +276,15 @@ impl Replay {
             self.event(script, call, event)?;
             return Ok(());
         };
-        let server = server_on(script, ticket.chan, call, attempt);
-        forget(&mut self.wires, server, id);
-        lose(&mut self.pool, &mut self.wires, id, code)?;
+        forget(&mut self.wires, aim.server, aim.id);
+        lose(
+            &mut self.pool,
+            &mut self.wires,
+            &mut self.marks,
+            aim.id,
+            code,
+            self.reached,
+        )?;
         Ok(())
     }
 
@@ -266,6 +293,7 @@ impl Replay {
         requires fits { Fits script.now }
         requires ready { IsReady script.now self.old }
         requires few { length self.old.calls.entries ≤ 500000 }
+        requires early { (spec.call_join (replay_of self.old) call).reached < 2 ^ 60 }
         ensures ready { OnOk result (IsReady script.now self.new) }
         ensures after { OnOk result (replay_of self.new ≡ spec.call_join (replay_of self.old) call) }
         ensures calls { OnOk result (self.new.calls ≡ self.old.calls) }
@@ -275,11 +303,18 @@ impl Replay {
         let Some(known) = self.calls.get(&call) else {
             return Ok(());
         };
-        let Some(ticket) = *known else {
+        let Some(ticket) = known else {
             told.push(Told::Gone(call))?;
             return Ok(());
         };
-        let joined = join(&mut self.pool, &mut self.wires, ticket.first, self.reached)?;
+        let first = ticket.first;
+        let joined = join(
+            &mut self.pool,
+            &mut self.wires,
+            &mut self.marks,
+            first,
+            self.reached,
+        )?;
         let Some((reached, tells)) = joined else {
             told.push(Told::Gone(call))?;
             return Ok(());
@@ -301,9 +336,9 @@ impl Replay {
         requires fits { Fits script.now }
         requires ready { IsReady script.now self.old }
         requires few { length self.old.calls.entries ≤ 500000 }
-        requires early { self.old.reached < 2 ^ 60 }
-        requires moment { IsMoment act.now }
+        requires early { (spec.after script.now (replay_of self.old) act.now).reached < 2 ^ 60 }
         requires act { IsAct (length script.now.chans) act.now }
+        requires narrow { BeginsNarrow script.now.chans act.now }
         requires new { IsNew self.old.calls.entries act.now }
         ensures ready { OnOk result (IsReady script.now self.new) }
         ensures after { OnOk result (settled (replay_of self.new) ≡ settled (spec.after script.now (replay_of self.old) act.now)) }
@@ -357,15 +392,4 @@ fn clone_bytes(alloc: Global, bytes: &Bytes) -> Result<Bytes, NoMemory>
     ensures { IfOk result (λ b. b ≡ bytes.now) }
 {
     Ok(Bytes::of(Vec::from_slice(alloc, bytes.list())?))
-}
-
-fn clone_leaf(alloc: Global, leaf: &LeafChan) -> Result<LeafChan, NoMemory>
-    ensures { IfOk result (λ l. l ≡ leaf.now) }
-{
-    Ok(LeafChan {
-        servers: List::of(Vec::from_slice(alloc, leaf.servers.list())?),
-        retry: leaf.retry,
-        backup: leaf.backup,
-        timeout: leaf.timeout,
-    })
 }

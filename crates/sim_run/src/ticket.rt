@@ -1,7 +1,8 @@
-ghost use Rattle.std.specs.Prelude.{◌≡◌, ◌+◌, ◌^◌, ◌<◌};
-ghost use Rattle.sim_run.specs.Desk.{plan_of, width_of, attempt_id};
+ghost use Rattle.std.specs.Prelude.{◌≡◌, ◌^◌, ◌<◌, Some, IfSome};
+ghost use Rattle.sim_run.specs.Desk.{plan_of, attempt_id, IsServed};
 ghost use Rattle.sim_run.specs.Sends.{server_to};
 
+use crate::wires::server_of;
 use chan_tree::Plan;
 use rpc_model::{MapKind, MergeKind};
 use std::sync::Arc;
@@ -14,20 +15,27 @@ pub(crate) struct Ticket {
     pub(crate) plan: Arc<Plan<MapKind, MergeKind>>,
 }
 
-impl Ticket {
-    /// The id of an attempt of a leaf. None where the call's plan has no such attempt.
-    pub(crate) fn attempt_id(&self, node: u32, attempt: u32) -> Option<u64>
-        requires { self.now.first < 2 ^ 63 }
-        ensures { result ≡ attempt_id self.now node attempt }
-    {
-        let offset = self.plan.offset_of_attempt(node, attempt)?;
-        Some(self.first + u64::from(offset))
-    }
+/// An attempt of a call that took a slot: its id, and the server to which it goes.
+#[derive(Clone, Copy)]
+pub(crate) struct Aim {
+    pub(crate) id: u64,
+    pub(crate) server: u32,
+}
 
-    /// The server to which an attempt of a leaf goes: 0 where the call's plan has no such leaf.
-    pub(crate) fn server(&self, call: u32, node: u32, attempt: u32) -> u32
-        ensures { result ≡ server_to (plan_of self.now) call node attempt }
+impl Ticket {
+    /// Where an attempt of a leaf goes. None where the call's plan has no such attempt.
+    pub(crate) fn aim(&self, call: u32, node: u32, attempt: u32, servers: u32) -> Option<Aim>
+        requires low { self.now.first < 2 ^ 63 }
+        requires served { IsServed servers self.now }
+        ensures id { IfSome result (λ aim. Some aim.id ≡ attempt_id self.now node attempt) }
+        ensures server { IfSome result (λ aim. aim.server ≡ server_to (plan_of self.now) call node attempt) }
+        ensures bound { IfSome result (λ aim. aim.server < servers) }
     {
-        self.plan.server_of(call, node, attempt)
+        let leaf = self.plan.leaf(node)?;
+        let offset = self.plan.offset_of_attempt(node, attempt)?;
+        Some(Aim {
+            id: self.first + u64::from(offset),
+            server: server_of(leaf, call, attempt),
+        })
     }
 }

@@ -1,10 +1,12 @@
 //! The wires of a replay: one for each server.
 
 ghost use Rattle.std.specs.Prelude.{◌≡◌, ◌^◌, ◌<◌, ◌≤◌, length, IfOk, OnOk};
+ghost use Rattle.rpc_model.specs.Effects.{server_of};
 ghost use Rattle.sim_run.specs.Wires.{on_wire, sent, received};
 
 use crate::wire::{Reply, Wire};
 use rpc_base::{Bytes, NoMemory};
+use rpc_model::LeafChan;
 use std::alloc::Global;
 
 /// A wire for each server.
@@ -16,6 +18,17 @@ pub(crate) fn open_wires(alloc: Global, servers: u32) -> Result<Vec<Wire>, NoMem
         wires.push(Wire::open(alloc)?)?;
     }
     Ok(wires)
+}
+
+/// The server of an attempt of a call: the attempts go round the channel's servers, from the one that the call's number
+/// names.
+pub(crate) fn server_of(leaf: &LeafChan, call: u32, attempt: u32) -> u32
+    requires { 1 ≤ length leaf.now.servers }
+    ensures { result ≡ server_of leaf.now call attempt }
+{
+    let servers = leaf.servers.list();
+    let at = (u64::from(call) + u64::from(attempt)) % servers.len() as u64;
+    servers[at as usize]
 }
 
 /// Sends a request to a server.

@@ -2,10 +2,10 @@
 use Rattle.std.proofs.Common.{◌≡◌, ◌+◌, ◌*◌, ◌^◌, ◌≤◌, ◌++◌, length, ap, refl, ◌∙◌, arith, length-append}
 use Rattle.std.specs.Map.{keys_of}
 use Rattle.std.proofs.lemmas.List.Elements.{All-nil}
-use Rattle.sim_run.specs.PlainTold.{Replay, told, told_from, tells, after, unbegun}
-use Rattle.sim_run.specs.PlainMoments.{StandsBy}
-use Rattle.sim_run.specs.PlainEarly.{settled}
-use Rattle.sim_run.proofs.PlainEarly.{after-sparse}
+use Rattle.rpc_model.specs.Told.{Replay, told, told_from, tells, after, unbegun}
+use Rattle.rpc_model.specs.Moments.{StandsBy}
+use Rattle.rpc_model.specs.Early.{settled}
+use Rattle.rpc_model.proofs.Early.{after-sparse}
 use Rattle.sim_run.proofs.Reaching.{ready-sparse}
 use Rattle.sim_run.proofs.Turns.{alike-tells, alike-after, turn-tells, turn-early, turn-new, turn-distinct, turn-few, front, on_err}
 use Rattle.sim_run.specs.Desk.{replay_of}

@@ -3,9 +3,9 @@ use Rattle.std.proofs.Common.{◌≡◌, ◌+◌, ◌*◌, ◌^◌, ◌≤◌, n
 use Rattle.std.specs.List.{IsDistinct}
 use Rattle.std.specs.Map.{keys_of}
 use Rattle.rpc_model.specs.Limits.{called}
-use Rattle.sim_run.specs.PlainTold.{Replay, told, told_from}
-use Rattle.sim_run.specs.PlainEarly.{settled, AreSparse}
-use Rattle.sim_run.specs.PlainMoments.{IsBy}
+use Rattle.rpc_model.specs.Told.{Replay, told, told_from}
+use Rattle.rpc_model.specs.Early.{settled, AreSparse}
+use Rattle.rpc_model.specs.Moments.{IsBy}
 use Rattle.sim_run.specs.Desk.{IsReady, replay_of}
 use Rattle.sim_run.proofs.replaying.replay.Given as goal
 

@@ -1,8 +1,8 @@
 -- The call takes the lowest vacant slot, or finds none.
 use Rattle.std.proofs.Common.{◌≡◌, ◌+◌, sym, ap, refl, ◌∙◌, arith}
 use Rattle.std.proofs.lemmas.List.{append-nil}
-use Rattle.sim_run.specs.PlainPlan.{leaf_plan}
-use Rattle.sim_run.specs.PlainMarks.{begin}
+use Rattle.rpc_model.specs.Plan.{leaf_plan}
+use Rattle.rpc_model.specs.Marks.{begin}
 use Rattle.id_pool.specs.Ranges.{created}
 use Rattle.sim_run.proofs.NewCalls.{IsNewCall, place, no-place, call-ready, call-after, call-tells, full-ready, full-after, full-tells, first-silent, first-low}
 use Rattle.sim_run.proofs.state.Replay.call.Goals as goal

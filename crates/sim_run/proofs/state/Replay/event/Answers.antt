@@ -1,6 +1,6 @@
 -- The event comes to the call that its first id finds.
 use Rattle.std.proofs.Common.{sym, refl}
-use Rattle.sim_run.specs.PlainTold as spec
+use Rattle.rpc_model.specs.Told as spec
 use Rattle.sim_run.proofs.Ready.{ready-brings, event-replay, own-event, own-may, no-event, some_ticket}
 use Rattle.sim_run.proofs.state.Replay.event.Goals as goal
 

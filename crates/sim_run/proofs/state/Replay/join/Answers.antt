@@ -1,7 +1,7 @@
 -- A join tells what it finds.
 use Rattle.std.proofs.Common.{◌∷◌, [], sym, refl, ap, ◌∙◌}
 use Rattle.std.proofs.lemmas.List.{append-nil}
-use Rattle.sim_run.specs.PlainTold as spec
+use Rattle.rpc_model.specs.Told as spec
 use Rattle.sim_run.proofs.Ready.{ready-brings, own-may}
 use Rattle.sim_run.proofs.JoinSteps.{moment_or, tells_or, join-first}
 use Rattle.sim_run.proofs.JoinReady.{join-replay, join-brings, joins-absent, joins-full, joins-ticket}

@@ -1,7 +1,7 @@
 -- The reply comes to the attempt that its id finds.
 use Rattle.std.proofs.Common.{Some, sym, refl, arith, length}
 use Rattle.rpc_model.specs.declared.event.Event.TheVariants as event
-use Rattle.sim_run.specs.PlainTold as spec
+use Rattle.rpc_model.specs.Told as spec
 use Rattle.sim_run.specs.Desk.{IsOn}
 use Rattle.sim_run.proofs.Ready.{ready-brings, event-replay, no-event, some_ticket}
 use Rattle.sim_run.proofs.Wired.{wired-received}

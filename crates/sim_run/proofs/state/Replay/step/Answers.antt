@@ -1,8 +1,8 @@
 -- The moment is reached, and the line does its work.
 use Rattle.std.proofs.Common.{[], ◌++◌, max, ap, ◌∙◌}
 use Rattle.rpc_model.specs.declared.event.Event.TheVariants as event
-use Rattle.sim_run.specs.PlainPlan.{plan}
-use Rattle.sim_run.specs.PlainTold as spec
+use Rattle.rpc_model.specs.Plan.{plan}
+use Rattle.rpc_model.specs.Told as spec
 use Rattle.sim_run.specs.Desk.{replay_of}
 use Rattle.sim_run.proofs.NewCalls.{absent}
 use Rattle.sim_run.proofs.Reaching.{ready-sparse}
