@@ -4,3 +4,7 @@ pub mod Counts
 pub mod Places
 pub mod Shown
 pub mod Falls
+pub mod Happening
+pub mod Growing
+pub mod Weights
+pub mod Bounds

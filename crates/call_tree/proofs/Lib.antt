@@ -1,0 +1,6 @@
+mod Weights
+mod Leaves
+mod Outside
+mod Quiet
+mod Attempts
+mod Bounds
