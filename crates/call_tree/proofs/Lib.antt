@@ -4,3 +4,4 @@ mod Outside
 mod Quiet
 mod Attempts
 mod Bounds
+mod Folds

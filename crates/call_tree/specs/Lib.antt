@@ -8,3 +8,4 @@ pub mod Happening
 pub mod Growing
 pub mod Weights
 pub mod Bounds
+pub mod Folding

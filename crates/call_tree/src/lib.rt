@@ -5,6 +5,7 @@ mod call;
 mod counts;
 mod deciding;
 mod effects;
+mod folding;
 mod happening;
 mod leaf_node;
 mod nodes;
