@@ -1,5 +1,5 @@
 -- The counts of a parallel node: this project's own choice.
-use Rattle.std.specs.Prelude.{ℕ, ◌+◌, ◌<◌, Option, None, Some}
+use Rattle.std.specs.Prelude.{◌+◌, ◌<◌, Option, None, Some}
 use Rattle.rpc_model.specs.declared.event.End.{End}
 use Rattle.rpc_model.specs.declared.event.End.TheVariants as end
 use Rattle.rpc_model.specs.Parallel.{Limits}

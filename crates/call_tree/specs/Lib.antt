@@ -4,3 +4,8 @@ pub mod Counts
 pub mod Places
 pub mod Shown
 pub mod Falls
+pub mod Happening
+pub mod Growing
+pub mod Weights
+pub mod Bounds
+pub mod Folding

@@ -1,5 +1,5 @@
 -- The state that the code's nodes stand for, and what they keep beside it.
-use Rattle.std.specs.Prelude.{◌≡◌, ℕ, List, [], ◌∷◌, Option, None, Some}
+use Rattle.std.specs.Prelude.{◌≡◌, List, [], ◌∷◌, Option, None, Some}
 use Rattle.rpc_model.specs.declared.event.End.{End}
 use Rattle.rpc_model.specs.Leaf.{Leaf}
 use Rattle.call_leaf.specs.Keeps.{Kept}
@@ -54,3 +54,10 @@ module _ {M G : Type 0} where
   IsSound (node.Leaf l) = IsLeafNode l
   IsSound (node.Par p) = IsParNode p
   IsSound (node.Sel p) = IsSelNode p
+
+  -- a state whose root a step may change so far
+  abbrev pub IsPlain : spec.State M G → Type 0
+  IsPlain (spec.waits plan) = Unit {0}
+  IsPlain (spec.leaf_state chan request leaf) = Unit {0}
+  IsPlain (spec.par_state par states) = ⊥
+  IsPlain (spec.sel_state sel states) = ⊥

@@ -1,4 +1,4 @@
-ghost use Rattle.std.specs.Prelude.{◌≡◌, ℕ, ◌^◌, ◌<◌, IfOk, OnOk, OnErr};
+ghost use Rattle.std.specs.Prelude.{◌≡◌, ℕ, ◌^◌, ◌<◌, is_some, IfOk, OnOk, OnErr};
 ghost use Rattle.std.specs.Option.{option_map};
 ghost use Rattle.std.specs.Arc.{arc_value};
 ghost use Rattle.rpc_model.specs.State.{end_of, attempts};
@@ -7,8 +7,10 @@ ghost use Rattle.call_tree.specs.Running.{kinds_of, entry_of, begun_by, stepped_
 
 use crate::effects::Effects;
 use crate::nodes::Tree;
+use crate::outbox::Outbox;
+use crate::starting::start;
 use chan_tree::Plan;
-use rpc_base::{Bytes, NoMemory};
+use rpc_base::{Bytes, List, NoMemory};
 use rpc_model::{End, Entry, Event, Origin};
 use std::alloc::Global;
 use std::marker::Model;
@@ -39,6 +41,10 @@ impl<M, G> Model for Call<M, G> {
     ghost coded = { Prim.hlevel (codes, plan_code {M = M} {G = G} (Prim.hlevel (codes)), state_code {M = M} {G = G} (Prim.hlevel (codes, plan_code {M = M} {G = G} (Prim.hlevel (codes))))) };
 
     ghost view = { λ c. record { plan = arc_value c.plan; call = c.call; state = c.tree; log = c.log.items } };
+
+    ghost use Rattle.call_tree.specs.Bounds.{IsWithin};
+
+    ghost invariant = { λ c. IsWithin (arc_value c.plan) c.tree };
 }
 
 impl<M: Mapper + Copy, G: Merger + Copy> Call<M, G> {
@@ -57,7 +63,16 @@ impl<M: Mapper + Copy, G: Merger + Copy> Call<M, G> {
         requires early { moment < 2 ^ 60 }
         ensures begun { IfOk result (λ r. let run = start (kinds_of M.answer G.answer) (arc_value plan) call request moment in (r.0 ≡ begun_by (arc_value plan) call run) × IsEffects run r.1) }
     {
-        Err(NoMemory)
+        let mut out = Outbox::new(alloc);
+        let tree = start(alloc, plan.tree(), request, 0, call, moment, &mut out)?;
+        let effects = effects_of(out, &tree);
+        let begun = Call {
+            plan,
+            call,
+            tree,
+            log: Vec::new(alloc),
+        };
+        Ok((begun, effects))
     }
 
     /// Applies an event at a moment in milliseconds, and puts it last in the log with where it came from.
@@ -76,7 +91,35 @@ impl<M: Mapper + Copy, G: Merger + Copy> Call<M, G> {
         ensures effects { IfOk result (λ effects. IsEffects (step (kinds_of M.answer G.answer) self.old.call self.old.state event moment) effects) }
         ensures kept { OnErr result (self.new ≡ self.old) }
     {
-        Err(NoMemory)
+        let mut out = Outbox::new(alloc);
+        self.log.reserve(1)?;
+        self.tree.step(
+            alloc,
+            self.plan.nodes(),
+            self.call,
+            &event,
+            moment,
+            &mut out,
+        )?;
+        self.log.push_reserved(Entry {
+            event,
+            moment,
+            from,
+        });
+        Ok(effects_of(out, &self.tree))
+    }
+}
+
+/// What went out, where this is the call's root now.
+fn effects_of<M, G>(out: Outbox, root: &Tree<M, G>) -> Effects
+    ensures sends { result.sends ≡ out.sends.items }
+    ensures marks { result.marks ≡ out.marks.items }
+    ensures ended { result.ended ≡ is_some (end_of root.now) }
+{
+    Effects {
+        sends: List::of(out.sends),
+        marks: List::of(out.marks),
+        ended: root.end().is_some(),
     }
 }
 
@@ -93,6 +136,13 @@ impl<M, G> Call<M, G> {
         ensures { result ≡ self.now.call }
     {
         self.call
+    }
+
+    /// How many attempts its leaves have issued.
+    pub fn attempts(&self) -> u32
+        ensures { result ≡ attempts self.now.state }
+    {
+        self.tree.attempts()
     }
 
     /// The events that were applied to it, in their order.

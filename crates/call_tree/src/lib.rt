@@ -3,8 +3,16 @@
 
 mod call;
 mod counts;
+mod deciding;
 mod effects;
+mod folding;
+mod happening;
+mod leaf_node;
 mod nodes;
+mod outbox;
+mod starting;
+mod stepping;
+mod taking;
 
 pub use call::Call;
 pub use effects::Effects;

@@ -1,0 +1,7 @@
+mod Weights
+mod Leaves
+mod Outside
+mod Quiet
+mod Attempts
+mod Bounds
+mod Folds
