@@ -21,31 +21,35 @@ use Rattle.sim_run.specs.Slots.{turned, finished}
 
 -- ---- the call is the machine's
 
+-- what is to be said of all fewer marks
+abbrev SameCalls : ℕ → ℕ → Type 0
+SameCalls n first = (r : ℕ) (c : Acting) → ((finished_at_most n first r c).0 ≡ (finish_at_most n r c.call).0) × ((finished_at_most n first r c).1.call ≡ (finish_at_most n r c.call).1)
+
 woven-call : (n first moment : ℕ) (a : Acting) → (woven_at_most n first moment a).call ≡ weave_at_most n moment a.call
 woven-call zero first moment a = refl
-woven-call (suc n) first moment a = by (least_mark a.call.waiting)
+woven-call (suc n) first moment a = by (least_mark a.call.waiting) (λ c. woven-call n first moment c)
   where
-    by : (o : Option (CallMark × List CallMark)) → (woven_least (woven_at_most n first moment) first moment a o).call ≡ weave_least (weave_at_most n moment) moment a.call o
-    by None = refl
-    by (Some (mark, others)) = at (nat_le mark.moment moment)
+    by : (o : Option (CallMark × List CallMark)) → ((c : Acting) → (woven_at_most n first moment c).call ≡ weave_at_most n moment c.call) → (woven_least (woven_at_most n first moment) first moment a o).call ≡ weave_least (weave_at_most n moment) moment a.call o
+    by None again = refl
+    by (Some (mark, others)) again = at (nat_le mark.moment moment)
       where
         at : (v : Bool) → (cond v (woven_at_most n first moment (taken first a mark others)) a).call ≡ cond v (weave_at_most n moment (take_mark a.call mark others)) a.call
-        at true = woven-call n first moment (taken first a mark others)
+        at true = again (taken first a mark others)
         at false = refl
 
 finished-call : (n first reached : ℕ) (a : Acting) → ((finished_at_most n first reached a).0 ≡ (finish_at_most n reached a.call).0) × ((finished_at_most n first reached a).1.call ≡ (finish_at_most n reached a.call).1)
 finished-call zero first reached a = (refl, refl)
-finished-call (suc n) first reached a = at (is_some (end_of a.call.state))
+finished-call (suc n) first reached a = at (is_some (end_of a.call.state)) (λ r c. finished-call n first r c)
   where
-    by : (o : Option (CallMark × List CallMark)) → ((finished_least (finished_at_most n first) first reached a o).0 ≡ (finish_least (finish_at_most n) reached a.call o).0)
+    by : (o : Option (CallMark × List CallMark)) → SameCalls n first → ((finished_least (finished_at_most n first) first reached a o).0 ≡ (finish_least (finish_at_most n) reached a.call o).0)
         × ((finished_least (finished_at_most n first) first reached a o).1.call ≡ (finish_least (finish_at_most n) reached a.call o).1)
-    by None = (refl, refl)
-    by (Some (mark, others)) = finished-call n first (max reached mark.moment) (taken first a mark others)
+    by None again = (refl, refl)
+    by (Some (mark, others)) again = again (max reached mark.moment) (taken first a mark others)
 
-    at : (v : Bool) → ((cond v (reached, a) (finished_least (finished_at_most n first) first reached a (least_mark a.call.waiting))).0 ≡ (cond v (reached, a.call) (finish_least (finish_at_most n) reached a.call (least_mark a.call.waiting))).0)
+    at : (v : Bool) → SameCalls n first → ((cond v (reached, a) (finished_least (finished_at_most n first) first reached a (least_mark a.call.waiting))).0 ≡ (cond v (reached, a.call) (finish_least (finish_at_most n) reached a.call (least_mark a.call.waiting))).0)
         × ((cond v (reached, a) (finished_least (finished_at_most n first) first reached a (least_mark a.call.waiting))).1.call ≡ (cond v (reached, a.call) (finish_least (finish_at_most n) reached a.call (least_mark a.call.waiting))).1)
-    at true = (refl, refl)
-    at false = by (least_mark a.call.waiting)
+    at true again = (refl, refl)
+    at false again = by (least_mark a.call.waiting) again
 
 pub turned-call : (t : Turn) (first : ℕ) (a : Acting) → (turned_by t first a).call ≡ turned t a.call
 turned-call (turn.Event event moment) first a = refl
@@ -71,14 +75,13 @@ woven-fuel (suc n) zero first moment a few few' = none (least_mark a.call.waitin
     none : (o : Option (CallMark × List CallMark)) → least_mark a.call.waiting ≡ o → woven_least (woven_at_most n first moment) first moment a (least_mark a.call.waiting) ≡ a
     none None e = ap (woven_least (woven_at_most n first moment) first moment a) e
     none (Some (mark, others)) e = let l = taken-left a.call mark others e in absurd (omega (arith, l, few'))
-woven-fuel (suc n) (suc m) first moment a few few' = by (least_mark a.call.waiting) refl
+woven-fuel (suc n) (suc m) first moment a few few' = by (least_mark a.call.waiting) refl (λ c h h'. woven-fuel n m first moment c h h')
   where
-    by : (o : Option (CallMark × List CallMark)) → least_mark a.call.waiting ≡ o → woven_least (woven_at_most n first moment) first moment a o ≡ woven_least (woven_at_most m first moment) first moment a o
-    by None e = refl
-    by (Some (mark, others)) e =
+    by : (o : Option (CallMark × List CallMark)) → least_mark a.call.waiting ≡ o → ((c : Acting) → marks_left c.call ≤ n → marks_left c.call ≤ m → woven_at_most n first moment c ≡ woven_at_most m first moment c) → woven_least (woven_at_most n first moment) first moment a o ≡ woven_least (woven_at_most m first moment) first moment a o
+    by None e again = refl
+    by (Some (mark, others)) e again =
         let l = taken-left a.call mark others e in
-        let again = woven-fuel n m first moment (taken first a mark others) (omega (arith, l, few)) (omega (arith, l, few')) in
-        ap (λ (x : Acting). cond (nat_le mark.moment moment) x a) again
+        ap (λ (x : Acting). cond (nat_le mark.moment moment) x a) (again (taken first a mark others) (omega (arith, l, few)) (omega (arith, l, few')))
 
 -- The mark that comes first is due, and is taken.
 pub woven-due : (first moment : ℕ) (a : Acting) (mark : CallMark) (others : List CallMark) → least_mark a.call.waiting ≡ Some (mark, others) → mark.moment ≤ moment → woven first moment a ≡ woven first moment (taken first a mark others)
@@ -102,37 +105,36 @@ woven-late first moment a late = by (marks_left a.call) (least_mark a.call.waiti
         let test : nat_le mark.moment moment ≡ false = grind (arith, nat_tests) in
         ap (woven_least (woven_at_most n first moment) first moment a) e ∙ ap (λ v. cond v (woven_at_most n first moment (taken first a mark others)) a) test
 
-finished-fuel : (n m first reached : ℕ) (a : Acting) → marks_left a.call ≤ n → marks_left a.call ≤ m → finished_at_most n first reached a ≡ finished_at_most m first reached a
-finished-fuel zero m first reached a few few' = none m (least_mark a.call.waiting) refl
+-- a call without a mark that it may take stays as it is
+finished-idle : (n first reached : ℕ) (a : Acting) → least_mark a.call.waiting ≡ None → finished_at_most n first reached a ≡ (reached, a)
+finished-idle zero first reached a none = refl
+finished-idle (suc n) first reached a none =
+    ap (λ (o : Option (CallMark × List CallMark)). cond {A = ℕ × Acting} (is_some (end_of a.call.state)) (reached, a) (finished_least (finished_at_most n first) first reached a o)) none ∙ same (is_some (end_of a.call.state))
   where
-    none : (m : ℕ) (o : Option (CallMark × List CallMark)) → least_mark a.call.waiting ≡ o → (reached, a) ≡ finished_at_most m first reached a
-    none zero o e = refl
-    none (suc m) None e = sym (ap (λ o. cond (is_some (end_of a.call.state)) (reached, a) (finished_least (finished_at_most m first) first reached a o)) e ∙ same (is_some (end_of a.call.state)))
-      where
-        same : (v : Bool) → cond v (reached, a) (reached, a) ≡ (reached, a)
-        same true = refl
-        same false = refl
-    none (suc m) (Some (mark, others)) e = let l = taken-left a.call mark others e in absurd (omega (arith, l, few))
-finished-fuel (suc n) zero first reached a few few' = sym (finished-fuel-zero (suc n))
-  where
-    finished-fuel-zero : (m : ℕ) → (reached, a) ≡ finished_at_most m first reached a
-    finished-fuel-zero zero = refl
-    finished-fuel-zero (suc m) = none (least_mark a.call.waiting) refl
-      where
-        same : (v : Bool) → cond v (reached, a) (reached, a) ≡ (reached, a)
-        same true = refl
-        same false = refl
+    same : (v : Bool) → cond {A = ℕ × Acting} v (reached, a) (reached, a) ≡ (reached, a)
+    same true = refl
+    same false = refl
 
-        none : (o : Option (CallMark × List CallMark)) → least_mark a.call.waiting ≡ o → (reached, a) ≡ finished_at_most (suc m) first reached a
-        none None e = sym (ap (λ o. cond (is_some (end_of a.call.state)) (reached, a) (finished_least (finished_at_most m first) first reached a o)) e ∙ same (is_some (end_of a.call.state)))
-        none (Some (mark, others)) e = let l = taken-left a.call mark others e in absurd (omega (arith, l, few'))
-finished-fuel (suc n) (suc m) first reached a few few' = ap (λ x. cond (is_some (end_of a.call.state)) (reached, a) x) (by (least_mark a.call.waiting) refl)
+no-fuel : (a : Acting) → marks_left a.call ≤ 0 → least_mark a.call.waiting ≡ None
+no-fuel a few = by (least_mark a.call.waiting) refl
   where
-    by : (o : Option (CallMark × List CallMark)) → least_mark a.call.waiting ≡ o → finished_least (finished_at_most n first) first reached a o ≡ finished_least (finished_at_most m first) first reached a o
+    by : (o : Option (CallMark × List CallMark)) → least_mark a.call.waiting ≡ o → o ≡ None
     by None e = refl
-    by (Some (mark, others)) e =
+    by (Some (mark, others)) e = let l = taken-left a.call mark others e in absurd (omega (arith, l, few))
+
+finished-fuel : (n m first reached : ℕ) (a : Acting) → marks_left a.call ≤ n → marks_left a.call ≤ m → finished_at_most n first reached a ≡ finished_at_most m first reached a
+finished-fuel zero m first reached a few few' = sym (finished-idle m first reached a (no-fuel a few))
+finished-fuel (suc n) zero first reached a few few' = finished-idle (suc n) first reached a (no-fuel a few')
+finished-fuel (suc n) (suc m) first reached a few few' =
+    ap (λ (x : ℕ × Acting). cond {A = ℕ × Acting} (is_some (end_of a.call.state)) (reached, a) x) (by (least_mark a.call.waiting) refl (λ r c h h'. finished-fuel n m first r c h h'))
+  where
+    by : (o : Option (CallMark × List CallMark)) → least_mark a.call.waiting ≡ o
+        → ((r : ℕ) (c : Acting) → marks_left c.call ≤ n → marks_left c.call ≤ m → finished_at_most n first r c ≡ finished_at_most m first r c)
+        → finished_least (finished_at_most n first) first reached a o ≡ finished_least (finished_at_most m first) first reached a o
+    by None e again = refl
+    by (Some (mark, others)) e again =
         let l = taken-left a.call mark others e in
-        finished-fuel n m first (max reached mark.moment) (taken first a mark others) (omega (arith, l, few)) (omega (arith, l, few'))
+        again (max reached mark.moment) (taken first a mark others) (omega (arith, l, few)) (omega (arith, l, few'))
 
 -- The call has no end, and the mark that comes first is taken.
 pub finished-open : (first reached : ℕ) (a : Acting) (mark : CallMark) (others : List CallMark) → is_some (end_of a.call.state) ≡ false → least_mark a.call.waiting ≡ Some (mark, others)
@@ -140,7 +142,7 @@ pub finished-open : (first reached : ℕ) (a : Acting) (mark : CallMark) (others
 finished-open first reached a mark others open_ e =
     let l = taken-left a.call mark others e in
     let once : finished_at_most (suc (marks_left a.call)) first reached a ≡ finished_at_most (marks_left a.call) first (max reached mark.moment) (taken first a mark others) =
-    ap (λ v. cond v (reached, a) (finished_least (finished_at_most (marks_left a.call) first) first reached a (least_mark a.call.waiting))) open_ ∙ ap (finished_least (finished_at_most (marks_left a.call) first) first reached a) e in
+    ap (λ v. cond {A = ℕ × Acting} v (reached, a) (finished_least (finished_at_most (marks_left a.call) first) first reached a (least_mark a.call.waiting))) open_ ∙ ap (finished_least (finished_at_most (marks_left a.call) first) first reached a) e in
     finished-fuel (marks_left a.call) (suc (marks_left a.call)) first reached a (omega arith) (omega arith) ∙ once
     ∙ finished-fuel (marks_left a.call) (marks_left (taken first a mark others).call) first (max reached mark.moment) (taken first a mark others) (omega (arith, l)) (omega arith)
 
@@ -150,31 +152,23 @@ finished-over first reached a over = by (marks_left a.call)
   where
     by : (n : ℕ) → finished_at_most n first reached a ≡ (reached, a)
     by zero = refl
-    by (suc n) = ap (λ v. cond v (reached, a) (finished_least (finished_at_most n first) first reached a (least_mark a.call.waiting))) over
+    by (suc n) = ap (λ v. cond {A = ℕ × Acting} v (reached, a) (finished_least (finished_at_most n first) first reached a (least_mark a.call.waiting))) over
 
 pub finished-none : (first reached : ℕ) (a : Acting) → least_mark a.call.waiting ≡ None → finished_by first reached a ≡ (reached, a)
-finished-none first reached a none = by (marks_left a.call)
-  where
-    same : (v : Bool) → cond v (reached, a) (reached, a) ≡ (reached, a)
-    same true = refl
-    same false = refl
-
-    by : (n : ℕ) → finished_at_most n first reached a ≡ (reached, a)
-    by zero = refl
-    by (suc n) = ap (λ o. cond (is_some (end_of a.call.state)) (reached, a) (finished_least (finished_at_most n first) first reached a o)) none ∙ same (is_some (end_of a.call.state))
+finished-none first reached a none = finished-idle (marks_left a.call) first reached a none
 
 -- The moment reached never goes back.
 finish-reaches : (n reached : ℕ) (b : Begun) → reached ≤ (finish_at_most n reached b).0
 finish-reaches zero reached b = omega arith
-finish-reaches (suc n) reached b = at (is_some (end_of b.state))
+finish-reaches (suc n) reached b = at (is_some (end_of b.state)) (λ r c. finish-reaches n r c)
   where
-    by : (o : Option (CallMark × List CallMark)) → reached ≤ (finish_least (finish_at_most n) reached b o).0
-    by None = omega arith
-    by (Some (mark, others)) = let h = finish-reaches n (max reached mark.moment) (take_mark b mark others) in omega (arith, h)
+    by : (o : Option (CallMark × List CallMark)) → ((r : ℕ) (c : Begun) → r ≤ (finish_at_most n r c).0) → reached ≤ (finish_least (finish_at_most n) reached b o).0
+    by None again = omega arith
+    by (Some (mark, others)) again = let h = again (max reached mark.moment) (take_mark b mark others) in omega (arith, h)
 
-    at : (v : Bool) → reached ≤ (cond v (reached, b) (finish_least (finish_at_most n) reached b (least_mark b.waiting))).0
-    at true = omega arith
-    at false = by (least_mark b.waiting)
+    at : (v : Bool) → ((r : ℕ) (c : Begun) → r ≤ (finish_at_most n r c).0) → reached ≤ (cond v (reached, b) (finish_least (finish_at_most n) reached b (least_mark b.waiting))).0
+    at true again = omega arith
+    at false again = by (least_mark b.waiting) again
 
 pub finished-reaches : (first reached : ℕ) (a : Acting) → reached ≤ (finished_by first reached a).0
 finished-reaches first reached a = let h = finish-reaches (marks_left a.call) reached a.call in let m = joined-moment reached first a in omega (arith, h, m)
@@ -184,20 +178,20 @@ finished-reaches first reached a = let h = finish-reaches (marks_left a.call) re
 -- A mark that is in the list stays in it when one is added.
 has-added : (id moment : ℕ) (mark : Mark) (marks : List Mark) → HasMark id moment marks → HasMark id moment (added mark marks)
 has-added id moment mark [] h = absurd h
-has-added id moment mark (m ∷ ms) h = by (comes_after m mark) h
+has-added id moment mark (m ∷ ms) h = by (comes_after m mark) h (λ there. has-added id moment mark ms there)
   where
-    by : (v : Bool) → HasMark id moment (m ∷ ms) → HasMark id moment (cond v (mark ∷ m ∷ ms) (m ∷ added mark ms))
-    by true h = inr h
-    by false (inl here) = inl here
-    by false (inr there) = inr (has-added id moment mark ms there)
+    by : (v : Bool) → HasMark id moment (m ∷ ms) → (HasMark id moment ms → HasMark id moment (added mark ms)) → HasMark id moment (cond v (mark ∷ m ∷ ms) (m ∷ added mark ms))
+    by true h again = inr h
+    by false (inl here) again = inl here
+    by false (inr there) again = inr (again there)
 
 has-new : (mark : Mark) (marks : List Mark) → HasMark mark.id mark.moment (added mark marks)
 has-new mark [] = inl (refl, refl)
-has-new mark (m ∷ ms) = by (comes_after m mark)
+has-new mark (m ∷ ms) = by (comes_after m mark) (has-new mark ms)
   where
-    by : (v : Bool) → HasMark mark.id mark.moment (cond v (mark ∷ m ∷ ms) (m ∷ added mark ms))
-    by true = inl (refl, refl)
-    by false = inr (has-new mark ms)
+    by : (v : Bool) → HasMark mark.id mark.moment (added mark ms) → HasMark mark.id mark.moment (cond v (mark ∷ m ∷ ms) (m ∷ added mark ms))
+    by true rest = inl (refl, refl)
+    by false rest = inr rest
 
 pub has-marked : (id moment first : ℕ) (set : List CallMark) (marks : List Mark) → HasMark id moment marks → HasMark id moment (marked first set marks)
 has-marked id moment first [] marks h = h
@@ -209,11 +203,11 @@ all-has first (w ∷ ws) marks more h all = (h (first + w.node) w.moment all.0, 
 
 all-set : (P : CallMark → Type 0) (mark : CallMark) (ws : List CallMark) → P mark → AllByRecursion P ws → AllByRecursion P (set_mark mark ws)
 all-set P mark [] p all = (p, tt)
-all-set P mark (w ∷ ws) p all = by (is_before mark w)
+all-set P mark (w ∷ ws) p all = by (is_before mark w) (all-set P mark ws p all.1)
   where
-    by : (v : Bool) → AllByRecursion P (cond v (mark ∷ w ∷ ws) (w ∷ set_mark mark ws))
-    by true = (p, all)
-    by false = (all.0, all-set P mark ws p all.1)
+    by : (v : Bool) → AllByRecursion P (set_mark mark ws) → AllByRecursion P (cond v (mark ∷ w ∷ ws) (w ∷ set_mark mark ws))
+    by true rest = (p, all)
+    by false rest = (all.0, rest)
 
 -- The marks that a call sets are in the list, and so are those that it waited for.
 pub marks-set : (first : ℕ) (set waiting : List CallMark) (marks : List Mark) → HasMarks first waiting marks → HasMarks first (set_all set waiting) (marked first set marks)
@@ -240,18 +234,18 @@ late-set Q first (w ∷ set) waiting marks all =
 
 all-added : (P : Mark → Type 0) (mark : Mark) (marks : List Mark) → P mark → AllByRecursion P marks → AllByRecursion P (added mark marks)
 all-added P mark [] p all = (p, tt)
-all-added P mark (m ∷ ms) p all = by (comes_after m mark)
+all-added P mark (m ∷ ms) p all = by (comes_after m mark) (all-added P mark ms p all.1)
   where
-    by : (v : Bool) → AllByRecursion P (cond v (mark ∷ m ∷ ms) (m ∷ added mark ms))
-    by true = (p, all)
-    by false = (all.0, all-added P mark ms p all.1)
+    by : (v : Bool) → AllByRecursion P (added mark ms) → AllByRecursion P (cond v (mark ∷ m ∷ ms) (m ∷ added mark ms))
+    by true rest = (p, all)
+    by false rest = (all.0, rest)
 
 pub ids-set : (P : ℕ → Type 0) (n first : ℕ) (set : List CallMark) (marks : List Mark) → ((node : ℕ) → node < n → P (first + node)) → AreWithin n set → AllByRecursion (λ (m : Mark). P m.id) marks → AllByRecursion (λ (m : Mark). P m.id) (marked first set marks)
 ids-set P n first [] marks own within all = all
 ids-set P n first (w ∷ set) marks own within all = ids-set P n first set (added (timed first w) marks) own within.1 (all-added (λ (m : Mark). P m.id) (timed first w) marks (own w.node within.0) all)
 
 -- what a call within a range of so many ids keeps of the list, and of its own fitness: its own marks, all that were there, and what holds of their ids
-pub record IsMarked (n first : ℕ) (a b : Acting) : Type 0 where
+pub record IsMarked (n first : ℕ) (a b : Acting) : Type 1 where
   pub own : (Q : ℕ → Type 0) → HasIf Q first a.call.waiting a.marks → HasIf Q first b.call.waiting b.marks
   pub others : (id moment : ℕ) → HasMark id moment a.marks → HasMark id moment b.marks
   pub ids : (P : ℕ → Type 0) → ((node : ℕ) → node < n → P (first + node)) → AllByRecursion (λ (m : Mark). P m.id) a.marks → AllByRecursion (λ (m : Mark). P m.id) b.marks
@@ -273,7 +267,7 @@ acted-marked n first event moment a fit =
 
 least-rest : (P : CallMark → Type 0) (ws : List CallMark) (mark : CallMark) (others : List CallMark) → least_mark ws ≡ Some (mark, others) → AllByRecursion P ws → AllByRecursion P others
 least-rest P [] mark others e all = absurd (cc)
-least-rest P (w ∷ ws) mark others e all = let same : ws ≡ others = cc in subst (AllByRecursion P) same all.1
+least-rest P (w ∷ ws) mark others e all = let pair : (w, ws) ≡ (mark, others) = cc in let same : ws ≡ others = ap (λ (p : CallMark × List CallMark). p.1) pair in subst (AllByRecursion P) same all.1
 
 taken-marked : (n first : ℕ) (a : Acting) (mark : CallMark) (others : List CallMark) → least_mark a.call.waiting ≡ Some (mark, others) → IsFit n a.call → IsMarked n first a (taken first a mark others)
 taken-marked n first a mark others e fit =
@@ -284,32 +278,32 @@ taken-marked n first a mark others e fit =
   where
     sorted-rest : (ws : List CallMark) (mark : CallMark) (others : List CallMark) → least_mark ws ≡ Some (mark, others) → IsSorted ws → IsSorted others
     sorted-rest [] mark others e s = absurd (cc)
-    sorted-rest (w ∷ ws) mark others e s = let same : ws ≡ others = cc in subst IsSorted same s.1
+    sorted-rest (w ∷ ws) mark others e s = let pair : (w, ws) ≡ (mark, others) = cc in let same : ws ≡ others = ap (λ (p : CallMark × List CallMark). p.1) pair in subst IsSorted same s.1
 
 woven-marked : (n count first moment : ℕ) (a : Acting) → IsFit n a.call → IsMarked n first a (woven_at_most count first moment a)
 woven-marked n zero first moment a fit = same-marked n first a
-woven-marked n (suc count) first moment a fit = by (least_mark a.call.waiting) refl
+woven-marked n (suc count) first moment a fit = by (least_mark a.call.waiting) refl (λ c h. woven-marked n count first moment c h)
   where
-    by : (o : Option (CallMark × List CallMark)) → least_mark a.call.waiting ≡ o → IsMarked n first a (woven_least (woven_at_most count first moment) first moment a o)
-    by None e = same-marked n first a
-    by (Some (mark, others)) e = at (nat_le mark.moment moment)
+    by : (o : Option (CallMark × List CallMark)) → least_mark a.call.waiting ≡ o → ((c : Acting) → IsFit n c.call → IsMarked n first c (woven_at_most count first moment c)) → IsMarked n first a (woven_least (woven_at_most count first moment) first moment a o)
+    by None e again = same-marked n first a
+    by (Some (mark, others)) e again = at (nat_le mark.moment moment)
       where
         at : (v : Bool) → IsMarked n first a (cond v (woven_at_most count first moment (taken first a mark others)) a)
-        at true = then-marked n first a (taken first a mark others) (woven_at_most count first moment (taken first a mark others)) (taken-marked n first a mark others e fit) (woven-marked n count first moment (taken first a mark others) (taken-fit n a.call mark others e fit))
+        at true = then-marked n first a (taken first a mark others) (woven_at_most count first moment (taken first a mark others)) (taken-marked n first a mark others e fit) (again (taken first a mark others) (taken-fit n a.call mark others e fit))
         at false = same-marked n first a
 
 finished-marked : (n count first reached : ℕ) (a : Acting) → IsFit n a.call → IsMarked n first a (finished_at_most count first reached a).1
 finished-marked n zero first reached a fit = same-marked n first a
-finished-marked n (suc count) first reached a fit = at (is_some (end_of a.call.state))
+finished-marked n (suc count) first reached a fit = at (is_some (end_of a.call.state)) (λ r c h. finished-marked n count first r c h)
   where
-    by : (o : Option (CallMark × List CallMark)) → least_mark a.call.waiting ≡ o → IsMarked n first a (finished_least (finished_at_most count first) first reached a o).1
-    by None e = same-marked n first a
-    by (Some (mark, others)) e =
-        then-marked n first a (taken first a mark others) (finished_at_most count first (max reached mark.moment) (taken first a mark others)).1 (taken-marked n first a mark others e fit) (finished-marked n count first (max reached mark.moment) (taken first a mark others) (taken-fit n a.call mark others e fit))
+    by : (o : Option (CallMark × List CallMark)) → least_mark a.call.waiting ≡ o → ((r : ℕ) (c : Acting) → IsFit n c.call → IsMarked n first c (finished_at_most count first r c).1) → IsMarked n first a (finished_least (finished_at_most count first) first reached a o).1
+    by None e again = same-marked n first a
+    by (Some (mark, others)) e again =
+        then-marked n first a (taken first a mark others) (finished_at_most count first (max reached mark.moment) (taken first a mark others)).1 (taken-marked n first a mark others e fit) (again (max reached mark.moment) (taken first a mark others) (taken-fit n a.call mark others e fit))
 
-    at : (v : Bool) → IsMarked n first a (cond v (reached, a) (finished_least (finished_at_most count first) first reached a (least_mark a.call.waiting))).1
-    at true = same-marked n first a
-    at false = by (least_mark a.call.waiting) refl
+    at : (v : Bool) → ((r : ℕ) (c : Acting) → IsFit n c.call → IsMarked n first c (finished_at_most count first r c).1) → IsMarked n first a (cond v (reached, a) (finished_least (finished_at_most count first) first reached a (least_mark a.call.waiting))).1
+    at true again = same-marked n first a
+    at false again = by (least_mark a.call.waiting) refl again
 
 pub turned-marked : (n : ℕ) (t : Turn) (first : ℕ) (a : Acting) → IsFit n a.call → IsMarked n first a (turned_by t first a)
 turned-marked n (turn.Event event moment) first a fit = acted-marked n first event moment a fit

@@ -6,17 +6,17 @@ use Rattle.std.proofs.lemmas.List.Sums.{sum_by-append, count_by-le-length}
 use Rattle.std.proofs.lemmas.Map.Keys.{IsDistinct-cons, IsDistinct-head, IsDistinct-tail}
 use Rattle.std.specs.List.{IsDistinct, AllByRecursion}
 use Rattle.std.specs.Map.{keys_of}
-use Rattle.rpc_model.specs.Plan.{possible_attempts, width as plan_width}
-use Rattle.sim_run.specs.PlainMachine.{attempts}
-use Rattle.rpc_model.specs.Marks.{Begun, most_marks}
+use Rattle.rpc_model.specs.Versions.{width as plan_width}
+use Rattle.rpc_model.specs.Marks.{Begun}
+use Rattle.sim_run.specs.Marked.{IsFit}
 use Rattle.rpc_model.specs.Told.{Standing, begun, full, is_begun}
 use Rattle.id_pool.specs.Ids.{make_id, slot_of, version_of}
 use Rattle.id_pool.specs.Ranges.{Slot, Vacant, Retired, Taken, Free, look, lowest, later, offset, change, fresh, slot_at}
 use Rattle.id_pool.specs.Answers.{value_says}
 use Rattle.id_pool.proofs.Ids.{slot_of-make_id, version_of-make_id}
 use Rattle.sim_run.specs.declared.ticket.Ticket.{Ticket}
-use Rattle.sim_run.specs.Desk.{stand, standing_at, standing, standings, with_first, firsts, IsOfSlot, IsNumbered, IsKnown, is_taken, IsSlot, IsSound, IsPast}
-use Rattle.sim_run.proofs.Apart.{StandsAside, stands-aside, past-change, length-change}
+use Rattle.sim_run.specs.Desk.{stand, standing_at, standing, standings, with_first, firsts, IsOfSlot, IsNumbered, IsKnown, is_taken, IsSlot, IsSound, plan_of, width_of}
+use Rattle.sim_run.proofs.Apart.{StandsAside, stands-aside, length-change}
 use Rattle.sim_run.proofs.Changes.{look-at, seen-taken, slice_get-change}
 use Rattle.sim_run.proofs.Steps.{offset-in}
 use Rattle.sim_run.proofs.Entries.{one, count-cons, count-change, All-change, slot-of-all}
@@ -95,7 +95,7 @@ length-snoc entries e = length-append entries (e ∷ [])
 slot-later : (n m : ℕ) (s : Slot Begun) → n ≤ m → IsSlot n s → IsSlot m s
 slot-later n m (Vacant next) le h = omega (arith, le, h)
 slot-later n m Retired le h = h
-slot-later n m (Taken r) le h = record { below = (let top = h.below in omega (arith, le, top)); free = h.free; few_marks = h.few_marks; sized = h.sized; few_attempts = h.few_attempts }
+slot-later n m (Taken r) le h = record { below = (let top = h.below in omega (arith, le, top)); free = h.free; sized = h.sized; fit = h.fit }
 
 count-snoc : {X : Type 0} (p : X → Bool) (xs : List X) (x : X) → count_by p (xs ++ x ∷ []) ≡ count_by p xs + one (p x)
 count-snoc p xs x = let a = sum_by-append (λ y. cond (p y) 1 0) xs (x ∷ []) in let c = count-cons p x [] in omega (arith, a, c)
@@ -130,7 +130,6 @@ new-first slots i next ((call, Some range) ∷ xs) at low known = (ne_eqb range.
 pub record Joined (slots after : List (Slot Begun)) (entries : List (ℕ × Option Ticket)) (call : ℕ) (o : Option Ticket) (s : Standing) : Type 0 where
   pub stands : standings after (entries ++ (call, o) ∷ []) ≡ standings slots entries ++ s ∷ []
   pub sound : IsSound after (entries ++ (call, o) ∷ [])
-  pub past : (id : ℕ) → IsPast slots id → IsPast after id
   pub size : length after ≡ length slots
 
 -- A call that found no slot.
@@ -147,29 +146,28 @@ full-begins slots entries call sound numbers =
         open_slots = All-weaken (IsSlot (1 + 1024 * length entries)) (IsSlot (1 + 1024 * length (entries ++ (call, None) ∷ []))) slots (λ s h. slot-later _ _ s (omega (arith, more)) h) sound.open_slots;
         counted = ap (count_by is_begun) stands ∙ count-snoc is_begun (standings slots entries) (full call) ∙ omega (arith, sound.counted);
       };
-      past = λ id h. h;
       size = refl;
     }
 
 -- A call that takes a vacant slot.
-pub call-begins : (slots : List (Slot Begun)) (entries : List (ℕ × Option Ticket)) (call i next width chan : ℕ) (b : Begun) → IsSound slots entries → length entries ≤ 500000 → slice_get slots i ≡ Some (Vacant next)
-    → width ≡ plan_width b.plan → 1 ≤ width → width ≤ 1024 → b.call ≡ call → attempts b.state ≤ possible_attempts b.plan → length b.waiting ≤ most_marks b.plan
-    → IsDistinct nat_eq (keys_of (entries ++ (call, Some (record { first = make_id i next; width = width; chan = chan })) ∷ []))
-    → Joined slots (change i (λ s. Taken (fresh next width b)) slots) entries call (Some (record { first = make_id i next; width = width; chan = chan })) (begun b)
-call-begins slots entries call i next width chan b sound few at sized some most number few_attempts few_marks numbers =
+pub call-begins : (slots : List (Slot Begun)) (entries : List (ℕ × Option Ticket)) (call i next : ℕ) (range : Ticket) (b : Begun) → IsSound slots entries → length entries ≤ 500000 → slice_get slots i ≡ Some (Vacant next)
+    → range.first ≡ make_id i next → b.plan ≡ plan_of range → 1 ≤ width_of range → width_of range ≤ 1024 → b.call ≡ call → IsFit (width_of range) b
+    → IsDistinct nat_eq (keys_of (entries ++ (call, Some range) ∷ []))
+    → Joined slots (change i (λ s. Taken (fresh next (width_of range) b)) slots) entries call (Some range) (begun b)
+call-begins slots entries call i next range b sound few at first planned some most number fit numbers =
+    let width = width_of range in
     let t = Taken (fresh next width b) in
     let g : Slot Begun → Slot Begun = λ s. t in
     let after = change i g slots in
-    let range : Ticket = record { first = make_id i next; width = width; chan = chan } in
     let top : next ≤ 1 + 1024 * length entries = slot-of-all (IsSlot (1 + 1024 * length entries)) i slots (Vacant next) sound.open_slots at in
     let low : next < 2 ^ 32 = omega (arith, top, few) in
     let others = all-aside slots after entries (λ c other k. stands-aside slots after c other i g (Vacant next) refl at refl k (λ here. tt)) sound.known in
-    let slot : slot_of (make_id i next) ≡ Some i = slot_of-make_id i next low in
-    let version : version_of (make_id i next) ≡ next = version_of-make_id i next low in
-    let at_new : slot_at (slot_of (make_id i next)) after ≡ Some t = ap (λ o. slot_at o after) slot ∙ slice_get-change i g slots (Vacant next) at in
-    let zero_more : version_of (make_id i next) ≡ next + 0 = version ∙ omega arith in
-    let looks : value_says (look (make_id i next) after) ≡ Some b =
-    ap value_says (look-at (make_id i next) after t at_new ∙ seen-taken (version_of (make_id i next)) (fresh next width b) (Some 0) Free (ap (offset (fresh next width b)) zero_more ∙ offset-in (fresh next width b) 0 (omega (arith, some))) refl) in
+    let slot : slot_of range.first ≡ Some i = ap slot_of first ∙ slot_of-make_id i next low in
+    let version : version_of range.first ≡ next = ap version_of first ∙ version_of-make_id i next low in
+    let at_new : slot_at (slot_of range.first) after ≡ Some t = ap (λ o. slot_at o after) slot ∙ slice_get-change i g slots (Vacant next) at in
+    let zero_more : version_of range.first ≡ next + 0 = version ∙ omega arith in
+    let looks : value_says (look range.first after) ≡ Some b =
+    ap value_says (look-at range.first after t at_new ∙ seen-taken (version_of range.first) (fresh next width b) (Some 0) Free (ap (offset (fresh next width b)) zero_more ∙ offset-in (fresh next width b) 0 (omega (arith, some))) refl) in
     let stands : standings after (entries ++ (call, Some range) ∷ []) ≡ standings slots entries ++ begun b ∷ [] =
     map-append (standing after) entries ((call, Some range) ∷ []) ∙ ap (λ ss. ss ++ standing_at after call (Some range) ∷ []) others.0 ∙ ap (λ x. standings slots entries ++ stand call x ∷ []) looks in
     let more = length-snoc entries (call, Some range) in
@@ -178,13 +176,12 @@ call-begins slots entries call i next width chan b sound few at sized some most 
       stands = stands;
       sound = record {
         numbers = numbers;
-        ids = subst (IsDistinct nat_eq) (sym (firsts-snoc entries call (Some range))) (distinct-snoc (firsts entries) (make_id i next) sound.ids (new-first slots i next entries at low sound.known));
-        known = All-snoc (λ entry. IsKnown after entry.0 entry.1) entries (call, Some range) others.1 (some, subst (IsOfSlot range) (sym at_new) (inl (version, refl)), subst (IsNumbered call range) (sym looks) number);
+        ids = subst (IsDistinct nat_eq) (sym (firsts-snoc entries call (Some range))) (distinct-snoc (firsts entries) range.first sound.ids (subst (λ id. AllByRecursion (λ y. nat_eq y id ≡ false) (firsts entries)) (sym first) (new-first slots i next entries at low sound.known)));
+        known = All-snoc (λ entry. IsKnown after entry.0 entry.1) entries (call, Some range) others.1 (some, subst (IsOfSlot range) (sym at_new) (inl (version, refl)), subst (IsNumbered call range) (sym looks) (number, planned));
         open_slots = All-change (IsSlot (1 + 1024 * length (entries ++ (call, Some range) ∷ []))) i g slots
             (All-weaken (IsSlot (1 + 1024 * length entries)) (IsSlot (1 + 1024 * length (entries ++ (call, Some range) ∷ []))) slots (λ s h. slot-later _ _ s (omega (arith, more)) h) sound.open_slots)
-            (λ s e h. record { below = omega (arith, top, most, more); free = refl; few_marks = few_marks; sized = sized; few_attempts = few_attempts });
+            (λ s e h. record { below = omega (arith, top, most, more); free = refl; sized = ap plan_width (sym planned); fit = fit });
         counted = ap (count_by is_begun) stands ∙ count-snoc is_begun (standings slots entries) (begun b) ∙ omega (arith, sound.counted, places);
       };
-      past = λ id h. past-change i g slots (Vacant next) id at refl h;
       size = length-change i g slots;
     }

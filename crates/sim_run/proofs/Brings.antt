@@ -1,5 +1,5 @@
 -- What comes to a call by one of its ids, and what is left of slots and marks.
-use Rattle.std.proofs.Common.{◌≡◌, inl, inr, ℕ, zero, suc, ◌+◌, ◌-◌, ◌^◌, ◌<◌, ◌≤◌, nat_eq, List, [], ◌∷◌, length, slice_get, Option, None, Some, ap, sym, refl, ◌∙◌, subst, arith}
+use Rattle.std.proofs.Common.{◌≡◌, ◌≢◌, inl, inr, ℕ, zero, suc, ◌+◌, ◌-◌, ◌^◌, ◌<◌, ◌≤◌, nat_eq, List, [], ◌∷◌, length, slice_get, Option, None, Some, ap, sym, refl, ◌∙◌, subst, arith}
 use Rattle.std.specs.Map.{lookup}
 use Rattle.rpc_model.specs.Marks.{Begun}
 use Rattle.rpc_model.specs.Told.{Standing}
@@ -55,7 +55,7 @@ found slots entries ticket b k l sound few within =
 
 -- A range whose call was changed, among slots whose marks are in the list: what it does adds marks, and drops none.
 pub marked-step : (slots : List (Slot Begun)) (i : ℕ) (r s : Range Begun) (g : Slot Begun → Slot Begun) (a b : Acting) → slice_get slots i ≡ Some (Taken r) → g (Taken r) ≡ Taken s → s.first ≡ r.first
-    → HasMarks (make_id i r.first) s.value.waiting b.marks → ((id moment : ℕ) → HasMark id moment a.marks → HasMark id moment b.marks) → AreMarked a.marks slots → AreMarked b.marks (change i g slots)
+    → HasMarks (make_id i r.first) s.value.waiting b.marks → ((id moment : ℕ) → HasMark id moment a.marks → HasMark id moment b.marks) → ((j : ℕ) (x : Range Begun) → i ≢ j → slice_get slots j ≡ Some (Taken x) → HasMarks (make_id j x.first) x.value.waiting a.marks) → AreMarked b.marks (change i g slots)
 marked-step slots i r s g a b at is first done others all j x there = elim (same_or i j) [
   | inl same ↦
       let new : slice_get (change i g slots) i ≡ Some (Taken s) = slice_get-change i g slots (Taken r) at ∙ ap Some is in
@@ -64,7 +64,7 @@ marked-step slots i r s g a b at is first done others all j x there = elim (same
       subst (λ (y : Range Begun). HasMarks (make_id j y.first) y.value.waiting b.marks) own (subst (λ n. HasMarks (make_id n s.first) s.value.waiting b.marks) same (subst (λ f. HasMarks (make_id i f) s.value.waiting b.marks) (sym first) done))
   | inr other ↦
       let here : slice_get slots j ≡ Some (Taken x) = sym (slice_get-other i j g slots other) ∙ there in
-      all-has (make_id j x.first) x.value.waiting a.marks b.marks others (all j x here)
+      all-has (make_id j x.first) x.value.waiting a.marks b.marks others (all j x other here)
 ]
   where
     same-taken : (s x : Range Begun) → Some (Taken s) ≡ Some (Taken x) → s ≡ x
@@ -83,7 +83,7 @@ marked-left slots i next r g a b at is others all j x there = elim (same_or i j)
 ]
 
 -- what comes to a call and what the call does: both are the same change of the call, and the call's marks stay in the list
-pub record Does (f : ℕ → Acting → Acting) (h : Begun → Begun) : Type 0 where
+pub record Does (f : ℕ → Acting → Acting) (h : Begun → Begun) : Type 1 where
   pub call : (first : ℕ) (a : Acting) → (f first a).call ≡ h a.call
   pub marks : (n first : ℕ) (a : Acting) → IsFit n a.call → IsMarked n first a (f first a)
   pub fit : (n : ℕ) (b : Begun) → IsFit n b → IsFit n (h b)
@@ -134,7 +134,7 @@ brings-lives slots wires marks entries call ticket d h f k b does sound few at w
     let range = slot-of-all (IsSlot (most entries)) l.slot slots (Taken l.r) sound.open_slots l.at in
     let kept = does.marks l.r.size id a range.fit in
     let done : HasMarks id (h l.r.value).waiting (d id a).marks = subst (λ (c : Begun). HasMarks id c.waiting (d id a).marks) (does.call id a) (marks-own l.r.size id a (d id a) kept (marked l.slot l.r l.at)) in
-    let step = marked-step slots l.slot l.r (visited l.r (h l.r.value)) g a (d id a) l.at is refl done kept.others marked in
+    let step = marked-step slots l.slot l.r (visited l.r (h l.r.value)) g a (d id a) l.at is refl done kept.others (λ j x differ there. marked j x there) in
     let mine = own-ids entries call ticket at l.width it.own in
     record {
       follows = follows;

@@ -26,11 +26,11 @@ use Rattle.sim_run.specs.Slots.{turned, finished}
 
 all-set : (P : Mark → Type 0) (mark : Mark) (ws : List Mark) → P mark → AllByRecursion P ws → AllByRecursion P (set_mark mark ws)
 all-set P mark [] p all = (p, tt)
-all-set P mark (w ∷ ws) p all = by (is_before mark w)
+all-set P mark (w ∷ ws) p all = by (is_before mark w) (all-set P mark ws p all.1)
   where
-    by : (v : Bool) → AllByRecursion P (cond v (mark ∷ w ∷ ws) (w ∷ set_mark mark ws))
-    by true = (p, all)
-    by false = (all.0, all-set P mark ws p all.1)
+    by : (v : Bool) → AllByRecursion P (set_mark mark ws) → AllByRecursion P (cond v (mark ∷ w ∷ ws) (w ∷ set_mark mark ws))
+    by true rest = (p, all)
+    by false rest = (all.0, rest)
 
 all-later : (m n : ℕ) (ws : List Mark) → m ≤ n → AllByRecursion (λ (w : Mark). n ≤ w.moment) ws → AllByRecursion (λ (w : Mark). m ≤ w.moment) ws
 all-later m n [] le all = tt
@@ -38,11 +38,11 @@ all-later m n (w ∷ ws) le all = ((let h : n ≤ w.moment = all.0 in omega (ari
 
 sorted-set : (mark : Mark) (ws : List Mark) → IsSorted ws → IsSorted (set_mark mark ws)
 sorted-set mark [] s = (tt, tt)
-sorted-set mark (w ∷ ws) s = by (is_before mark w) refl
+sorted-set mark (w ∷ ws) s = by (is_before mark w) refl (sorted-set mark ws s.1)
   where
-    by : (v : Bool) → is_before mark w ≡ v → IsSorted (cond v (mark ∷ w ∷ ws) (w ∷ set_mark mark ws))
-    by true e = let le : mark.moment ≤ w.moment = grind (arith, nat_tests) in ((le, all-later mark.moment w.moment ws le s.0), s)
-    by false e = let le : w.moment ≤ mark.moment = grind (arith, nat_tests) in (all-set (λ (x : Mark). w.moment ≤ x.moment) mark ws le s.0, sorted-set mark ws s.1)
+    by : (v : Bool) → is_before mark w ≡ v → IsSorted (set_mark mark ws) → IsSorted (cond v (mark ∷ w ∷ ws) (w ∷ set_mark mark ws))
+    by true e rest = let le : mark.moment ≤ w.moment = grind (arith, nat_tests) in ((le, all-later mark.moment w.moment ws le s.0), s)
+    by false e rest = let le : w.moment ≤ mark.moment = grind (arith, nat_tests) in (all-set (λ (x : Mark). w.moment ≤ x.moment) mark ws le s.0, rest)
 
 all-set_all : (P : Mark → Type 0) (set ws : List Mark) → AllByRecursion P set → AllByRecursion P ws → AllByRecursion P (set_all set ws)
 all-set_all P [] ws p all = all
@@ -84,7 +84,8 @@ without-fit n b mark others e fit = by b.waiting e fit.nodes fit.sorted
     by : (ws : List Mark) → least_mark ws ≡ Some (mark, others) → AllByRecursion (λ (w : Mark). w.node < n) ws → IsSorted ws → IsFit n (record b { waiting = others })
     by [] e all s = absurd (cc)
     by (w ∷ ws) e all s =
-        let same : ws ≡ others = cc in
+        let pair : (w, ws) ≡ (mark, others) = cc in
+        let same : ws ≡ others = ap (λ (p : Mark × List Mark). p.1) pair in
         record { size = fit.size; nodes = subst (AllByRecursion (λ (w : Mark). w.node < n)) same all.1; sorted = subst IsSorted same s.1 }
 
 pub taken-fit : (n : ℕ) (b : Begun) (mark : Mark) (others : List Mark) → least_mark b.waiting ≡ Some (mark, others) → IsFit n b → IsFit n (take_mark b mark others)
@@ -92,27 +93,27 @@ taken-fit n b mark others e fit = apply-fit n (record b { waiting = others }) (m
 
 weave-fit : (n count moment : ℕ) (b : Begun) → IsFit n b → IsFit n (weave_at_most count moment b)
 weave-fit n zero moment b fit = fit
-weave-fit n (suc count) moment b fit = by (least_mark b.waiting) refl
+weave-fit n (suc count) moment b fit = by (least_mark b.waiting) refl (λ c h. weave-fit n count moment c h)
   where
-    by : (o : Option (Mark × List Mark)) → least_mark b.waiting ≡ o → IsFit n (weave_least (weave_at_most count moment) moment b o)
-    by None e = fit
-    by (Some (mark, others)) e = at (nat_le mark.moment moment)
+    by : (o : Option (Mark × List Mark)) → least_mark b.waiting ≡ o → ((c : Begun) → IsFit n c → IsFit n (weave_at_most count moment c)) → IsFit n (weave_least (weave_at_most count moment) moment b o)
+    by None e again = fit
+    by (Some (mark, others)) e again = at (nat_le mark.moment moment)
       where
         at : (v : Bool) → IsFit n (cond v (weave_at_most count moment (take_mark b mark others)) b)
-        at true = weave-fit n count moment (take_mark b mark others) (taken-fit n b mark others e fit)
+        at true = again (take_mark b mark others) (taken-fit n b mark others e fit)
         at false = fit
 
 finish-fit : (n count reached : ℕ) (b : Begun) → IsFit n b → IsFit n (finish_at_most count reached b).1
 finish-fit n zero reached b fit = fit
-finish-fit n (suc count) reached b fit = at (is_some (end_of b.state))
+finish-fit n (suc count) reached b fit = at (is_some (end_of b.state)) (λ r c h. finish-fit n count r c h)
   where
-    by : (o : Option (Mark × List Mark)) → least_mark b.waiting ≡ o → IsFit n (finish_least (finish_at_most count) reached b o).1
-    by None e = fit
-    by (Some (mark, others)) e = finish-fit n count (max reached mark.moment) (take_mark b mark others) (taken-fit n b mark others e fit)
+    by : (o : Option (Mark × List Mark)) → least_mark b.waiting ≡ o → ((r : ℕ) (c : Begun) → IsFit n c → IsFit n (finish_at_most count r c).1) → IsFit n (finish_least (finish_at_most count) reached b o).1
+    by None e again = fit
+    by (Some (mark, others)) e again = again (max reached mark.moment) (take_mark b mark others) (taken-fit n b mark others e fit)
 
-    at : (v : Bool) → IsFit n (cond v (reached, b) (finish_least (finish_at_most count) reached b (least_mark b.waiting))).1
-    at true = fit
-    at false = by (least_mark b.waiting) refl
+    at : (v : Bool) → ((r : ℕ) (c : Begun) → IsFit n c → IsFit n (finish_at_most count r c).1) → IsFit n (cond v (reached, b) (finish_least (finish_at_most count) reached b (least_mark b.waiting))).1
+    at true again = fit
+    at false again = by (least_mark b.waiting) refl again
 
 pub turned-fit : (n : ℕ) (t : Turn) (b : Begun) → IsFit n b → IsFit n (turned t b)
 turned-fit n (turn.Event event moment) b fit = apply-fit n b event moment fit
@@ -148,7 +149,7 @@ weave-rest-at n zero moment b few fit = by b.waiting refl
     by : (ws : List Mark) → b.waiting ≡ ws → AllByRecursion (λ (x : Mark). moment < x.moment) ws
     by [] e = tt
     by (w ∷ ws) e = let l = taken-left b w ws (ap least_mark e) in absurd (omega (arith, l, few))
-weave-rest-at n (suc count) moment b few fit = by (least_mark b.waiting) refl
+weave-rest-at n (suc count) moment b few fit = by (least_mark b.waiting) refl (λ c l h. weave-rest-at n count moment c l h)
   where
     none : (ws : List Mark) → least_mark ws ≡ None → AllByRecursion (λ (x : Mark). moment < x.moment) ws
     none [] e = tt
@@ -156,14 +157,15 @@ weave-rest-at n (suc count) moment b few fit = by (least_mark b.waiting) refl
 
     first : (ws : List Mark) (mark : Mark) (others : List Mark) → least_mark ws ≡ Some (mark, others) → IsSorted ws → moment < mark.moment → AllByRecursion (λ (x : Mark). moment < x.moment) ws
     first [] mark others e s late = absurd (cc)
-    first (w ∷ ws) mark others e s late = let same : w ≡ mark = cc in let at : moment < w.moment = (let m = ap (λ (x : Mark). x.moment) same in omega (arith, late, m)) in rest-late moment w ws at s
+    first (w ∷ ws) mark others e s late = let pair : (w, ws) ≡ (mark, others) = cc in let same : w ≡ mark = ap (λ (p : Mark × List Mark). p.0) pair in let at : moment < w.moment = (let m = ap (λ (x : Mark). x.moment) same in omega (arith, late, m)) in rest-late moment w ws at s
 
-    by : (o : Option (Mark × List Mark)) → least_mark b.waiting ≡ o → AllByRecursion (λ (x : Mark). moment < x.moment) (weave_least (weave_at_most count moment) moment b o).waiting
-    by None e = none b.waiting e
-    by (Some (mark, others)) e = at (nat_le mark.moment moment) refl
+    by : (o : Option (Mark × List Mark)) → least_mark b.waiting ≡ o → ((c : Begun) → marks_left c ≤ count → IsFit n c → AllByRecursion (λ (x : Mark). moment < x.moment) (weave_at_most count moment c).waiting)
+        → AllByRecursion (λ (x : Mark). moment < x.moment) (weave_least (weave_at_most count moment) moment b o).waiting
+    by None e again = none b.waiting e
+    by (Some (mark, others)) e again = at (nat_le mark.moment moment) refl
       where
         at : (v : Bool) → nat_le mark.moment moment ≡ v → AllByRecursion (λ (x : Mark). moment < x.moment) (cond v (weave_at_most count moment (take_mark b mark others)) b).waiting
-        at true t = let l = taken-left b mark others e in weave-rest-at n count moment (take_mark b mark others) (omega (arith, l, few)) (taken-fit n b mark others e fit)
+        at true t = let l = taken-left b mark others e in again (take_mark b mark others) (omega (arith, l, few)) (taken-fit n b mark others e fit)
         at false t = let late : moment < mark.moment = grind (arith, nat_tests) in first b.waiting mark others e fit.sorted late
 
 pub weave-rest : (n moment : ℕ) (b : Begun) → IsFit n b → AllByRecursion (λ (x : Mark). moment < x.moment) (weave moment b).waiting

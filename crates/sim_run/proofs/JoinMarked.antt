@@ -34,7 +34,7 @@ marked-if None reached i slots r g a own fit low at is marked =
     let kept = joined-marked r.size reached (make_id i r.first) a (subst (IsFit r.size) (sym own) fit) in
     let mine : HasMarks (make_id i r.first) a.call.waiting a.marks = subst (λ (c : Begun). HasMarks (make_id i r.first) c.waiting a.marks) (sym own) (marked i r at) in
     let done : HasMarks (make_id i r.first) (finished reached r.value).waiting b.marks = subst (λ (c : Begun). HasMarks (make_id i r.first) c.waiting b.marks) call (marks-own r.size (make_id i r.first) a b kept mine) in
-    marked-step slots i r (visited r (finished reached r.value)) g a b at is refl done kept.others marked
+    marked-step slots i r (visited r (finished reached r.value)) g a b at is refl done kept.others (λ j x differ there. marked j x there)
 marked-if (Some e) reached i slots r g a own fit low at is marked =
     let b = joined_by reached (make_id i r.first) a in
     let kept = joined-marked r.size reached (make_id i r.first) a (subst (IsFit r.size) (sym own) fit) in

@@ -23,28 +23,28 @@ taken-later b mark others = record { number = refl; plan = refl }
 
 weave-later : (n moment : ℕ) (b : Begun) → IsLater b (weave_at_most n moment b)
 weave-later zero moment b = same-later b
-weave-later (suc n) moment b = by (least_mark b.waiting)
+weave-later (suc n) moment b = by (least_mark b.waiting) (λ c. weave-later n moment c)
   where
-    by : (o : Option (Mark × List Mark)) → IsLater b (weave_least (weave_at_most n moment) moment b o)
-    by None = same-later b
-    by (Some (mark, others)) = at (nat_le mark.moment moment)
+    by : (o : Option (Mark × List Mark)) → ((c : Begun) → IsLater c (weave_at_most n moment c)) → IsLater b (weave_least (weave_at_most n moment) moment b o)
+    by None again = same-later b
+    by (Some (mark, others)) again = at (nat_le mark.moment moment)
       where
         at : (v : Bool) → IsLater b (cond v (weave_at_most n moment (take_mark b mark others)) b)
-        at true = later-later b (take_mark b mark others) (weave_at_most n moment (take_mark b mark others)) (taken-later b mark others) (weave-later n moment (take_mark b mark others))
+        at true = later-later b (take_mark b mark others) (weave_at_most n moment (take_mark b mark others)) (taken-later b mark others) (again (take_mark b mark others))
         at false = same-later b
 
 finish-later : (n reached : ℕ) (b : Begun) → IsLater b (finish_at_most n reached b).1
 finish-later zero reached b = same-later b
-finish-later (suc n) reached b = at (is_some (end_of b.state))
+finish-later (suc n) reached b = at (is_some (end_of b.state)) (λ r c. finish-later n r c)
   where
-    by : (o : Option (Mark × List Mark)) → IsLater b (finish_least (finish_at_most n) reached b o).1
-    by None = same-later b
-    by (Some (mark, others)) =
-        later-later b (take_mark b mark others) (finish_at_most n (max reached mark.moment) (take_mark b mark others)).1 (taken-later b mark others) (finish-later n (max reached mark.moment) (take_mark b mark others))
+    by : (o : Option (Mark × List Mark)) → ((r : ℕ) (c : Begun) → IsLater c (finish_at_most n r c).1) → IsLater b (finish_least (finish_at_most n) reached b o).1
+    by None again = same-later b
+    by (Some (mark, others)) again =
+        later-later b (take_mark b mark others) (finish_at_most n (max reached mark.moment) (take_mark b mark others)).1 (taken-later b mark others) (again (max reached mark.moment) (take_mark b mark others))
 
-    at : (v : Bool) → IsLater b (cond v (reached, b) (finish_least (finish_at_most n) reached b (least_mark b.waiting))).1
-    at true = same-later b
-    at false = by (least_mark b.waiting)
+    at : (v : Bool) → ((r : ℕ) (c : Begun) → IsLater c (finish_at_most n r c).1) → IsLater b (cond v (reached, b) (finish_least (finish_at_most n) reached b (least_mark b.waiting))).1
+    at true again = same-later b
+    at false again = by (least_mark b.waiting) again
 
 pub turned-later : (t : Turn) (b : Begun) → IsLater b (turned t b)
 turned-later (turn.Event event moment) b = record { number = refl; plan = refl }

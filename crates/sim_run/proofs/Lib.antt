@@ -1,6 +1,7 @@
 pub mod Fit
 pub mod Later
 pub mod Acts
+pub mod Fewer
 pub mod Changes
 pub mod Joins
 pub mod Apart

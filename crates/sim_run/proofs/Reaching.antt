@@ -1,16 +1,16 @@
 -- A moment is reached: the marks that are due are taken one after the other.
-use Rattle.std.proofs.Common.{◌≡◌, ℕ, ◌+◌, ◌^◌, ◌<◌, ◌≤◌, inl, inr, Bool, true, false, cond, nat_eq, List, [], ◌∷◌, length, map, slice_get, Option, None, Some, ap, sym, refl, ◌∙◌, subst, arith}
+use Rattle.std.proofs.Common.{◌≡◌, ◌≢◌, ℕ, ◌+◌, ◌-◌, ◌*◌, ◌^◌, ◌<◌, ◌≤◌, inl, inr, Bool, true, false, cond, nat_eq, List, [], ◌∷◌, length, map, slice_get, Option, None, Some, ap, sym, refl, ◌∙◌, subst, arith}
 use Rattle.std.specs.List.{AllByRecursion}
 use Rattle.std.specs.Map.{lookup}
 use Rattle.rpc_model.specs.declared.script.Script.{Script}
-use Rattle.sim_run.specs.PlainMachine.{Mark as Waits}
-use Rattle.rpc_model.specs.Marks.{Begun, weave}
+use Rattle.rpc_model.specs.Effects.{Mark as CallMark}
+use Rattle.rpc_model.specs.Marks.{Begun, weave, unstarted}
 use Rattle.rpc_model.specs.Told.{Standing, begun, change_first, is_call}
-use Rattle.rpc_model.specs.Early.{settle, settled, IsSparse, AreSparse}
+use Rattle.rpc_model.specs.Early.{settle, settled}
 use Rattle.rpc_model.proofs.Early.{settle-twice}
 use Rattle.id_pool.specs.Ids.{make_id, slot_of, version_of}
-use Rattle.id_pool.proofs.Ids.{slot_of-make_id}
-use Rattle.id_pool.specs.Ranges.{Slot, Taken, Range, Standing as Standing', Free, offset, seen_at, look, slot_at, change, change_at, changed}
+use Rattle.id_pool.proofs.Ids.{slot_of-make_id, version_of-make_id, make_id-plus}
+use Rattle.id_pool.specs.Ranges.{Slot, Taken, Range, Nothing, Unlocked, offset, look, slot_at, change, change_at, changed}
 use Rattle.id_pool.specs.Answers.{value_says}
 use Rattle.timer_core.specs.declared.mark.Mark.{Mark}
 use Rattle.timer_core.specs.Marks.{due_mark, rest_after}
@@ -18,132 +18,135 @@ use Rattle.sim_run.specs.declared.ticket.Ticket.{Ticket}
 use Rattle.sim_run.specs.declared.state.Replay.{Replay}
 use Rattle.sim_run.specs.declared.turn.Turn.TheVariants as turn
 use Rattle.sim_run.specs.Link.{Link}
-use Rattle.sim_run.specs.Slots.{visit, visit_by, visited, turned}
-use Rattle.sim_run.specs.Sends.{IsAmong, issue_by, LookMayIssue}
-use Rattle.sim_run.specs.Marked.{AreMarked, AreFirstIds}
-use Rattle.sim_run.specs.Desk.{stand, standing_at, standings, IsSlot, IsSound, IsKnown, IsReady, replay_of}
-use Rattle.sim_run.proofs.Later.{among-all, turned-later}
-use Rattle.sim_run.proofs.Due.{weave-rest}
-use Rattle.sim_run.proofs.Changes.{look-at, seen-taken, slice_get-change}
-use Rattle.sim_run.proofs.Apart.{same_or, slice_get-other}
+use Rattle.sim_run.specs.Slots.{visit, visit_by, visited, turned, acts_by}
+use Rattle.sim_run.specs.Acting.{Acting, turned_by}
+use Rattle.sim_run.specs.Marked.{HasMark, HasMarks, AreMarked, IsOwned, AreOwned}
+use Rattle.sim_run.specs.Desk.{standings, IsSlot, IsSound, IsReady, replay_of, width_of}
+use Rattle.sim_run.proofs.Later.{turned-later}
+use Rattle.sim_run.proofs.Fit.{turned-fit, weave-rest}
+use Rattle.sim_run.proofs.Acts.{HasIf, turned-call, turned-marked, all-if}
+use Rattle.sim_run.proofs.Fewer.{turned-fewer, acts-wires, left_in, total_left, total-change}
+use Rattle.sim_run.proofs.Changes.{look-at, seen-taken}
 use Rattle.sim_run.proofs.Entries.{slot-of-all, known-of}
-use Rattle.sim_run.proofs.Steps.{lives, most, Changes, range-wide, offset-in, finds-in, is-over, over-nothing}
-use Rattle.sim_run.proofs.Wired.{range-names}
+use Rattle.sim_run.proofs.Steps.{lives, most, Changes, Follows, change-moved, finds-in, offset-in, is-over, over-look, over-nothing}
+use Rattle.sim_run.proofs.Brings.{Brings, found, marked-step, own-ids}
 use Rattle.sim_run.proofs.Marked.{was-due, drop-mark}
-use Rattle.sim_run.proofs.Brings.{Brings, brings, found}
-use Rattle.sim_run.proofs.Ready.{ready-brings, own-may}
-
--- ---- calls and their marks
-
--- No call has more marks than its plan may set.
-stand-sparse : (call : ℕ) (o : Option Begun) → ((b : Begun) → o ≡ Some b → IsSparse (begun b)) → IsSparse (stand call o)
-stand-sparse call None h = tt
-stand-sparse call (Some b) h = h b refl
-
-at-sparse : (slots : List (Slot Begun)) (call bound : ℕ) (o : Option Ticket) → AllByRecursion (IsSlot bound) slots → IsKnown slots call o → IsSparse (standing_at slots call o)
-at-sparse slots call bound None open_ known = tt
-at-sparse slots call bound (Some ticket) open_ known = stand-sparse call (value_says (look ticket.first slots)) (λ b e.
-    let l = lives slots call ticket b bound known open_ e in
-    let range = slot-of-all (IsSlot bound) l.slot slots (Taken l.r) open_ l.at in
-    subst (λ c. IsSparse (begun c)) l.value range.few_marks)
-
-all-sparse : (slots : List (Slot Begun)) (bound : ℕ) (entries : List (ℕ × Option Ticket)) → AllByRecursion (IsSlot bound) slots → AllByRecursion (λ entry. IsKnown slots entry.0 entry.1) entries → AllByRecursion IsSparse (standings slots entries)
-all-sparse slots bound [] open_ known = tt
-all-sparse slots bound (e ∷ es) open_ known = (at-sparse slots e.0 bound e.1 open_ known.0, all-sparse slots bound es open_ known.1)
-
-pub ready-sparse : (script : Script) (replay : Replay) → IsReady script replay → AreSparse (replay_of replay)
-ready-sparse script replay ready = all-sparse replay.pool (most replay.calls.entries) replay.calls.entries ready.sound.open_slots ready.sound.known
+use Rattle.sim_run.proofs.Ready.{ready-brings}
 
 -- To settle one call first makes no difference.
-settle-first : (test : Standing → Bool) (m : ℕ) (xs : List Standing) → AllByRecursion IsSparse xs → map (settle m) (change_first test (settle m) xs) ≡ map (settle m) xs
-settle-first test m [] few = refl
-settle-first test m (x ∷ xs) few = by (test x) (settle-first test m xs few.1)
+settle-first : (test : Standing → Bool) (m : ℕ) (xs : List Standing) → map (settle m) (change_first test (settle m) xs) ≡ map (settle m) xs
+settle-first test m [] = refl
+settle-first test m (x ∷ xs) = by (test x) (settle-first test m xs)
   where
     by : (v : Bool) → map (settle m) (change_first test (settle m) xs) ≡ map (settle m) xs → map (settle m) (cond v (settle m x ∷ xs) (x ∷ change_first test (settle m) xs)) ≡ map (settle m) (x ∷ xs)
-    by true tail = ap (λ s. s ∷ map (settle m) xs) (settle-twice m m x (omega arith) few.0)
+    by true tail = ap (λ s. s ∷ map (settle m) xs) (settle-twice m m x (omega arith))
     by false tail = ap (λ ss. settle m x ∷ ss) tail
 
 -- ---- the mark that is taken
 
--- The first id of a range finds its call.
-range-looks : (slots : List (Slot Begun)) (bound j : ℕ) (s : Range Begun) → AllByRecursion (IsSlot bound) slots → bound < 2 ^ 32 → slice_get slots j ≡ Some (Taken s) → value_says (look (make_id j s.first) slots) ≡ Some s.value
-range-looks slots bound j s open_ low at =
+-- An id of a slot's range finds the range.
+pub range-finds : (slots : List (Slot Begun)) (bound j k : ℕ) (s : Range Begun) → AllByRecursion (IsSlot bound) slots → bound < 2 ^ 32 → slice_get slots j ≡ Some (Taken s) → k < s.size
+    → (slot_of (make_id j s.first + k) ≡ Some j) × (look (make_id j s.first + k) slots ≡ Unlocked s k)
+range-finds slots bound j k s open_ low at within =
     let range = slot-of-all (IsSlot bound) j slots (Taken s) open_ at in
     let below = range.below in
-    let wide = range-wide bound s range in
-    let n = range-names j s.first 0 (omega (arith, below, wide, low)) in
-    let none : make_id j s.first + 0 ≡ make_id j s.first = omega arith in
-    let slot : slot_at (slot_of (make_id j s.first)) slots ≡ Some (Taken s) = ap (λ id. slot_at (slot_of id) slots) (sym none) ∙ ap (λ o. slot_at o slots) n.slot ∙ at in
-    let version : version_of (make_id j s.first) ≡ s.first + 0 = ap version_of (sym none) ∙ n.version in
-    ap value_says (look-at (make_id j s.first) slots (Taken s) slot ∙ seen-taken (version_of (make_id j s.first)) s (Some 0) s.standing (ap (offset s) version ∙ offset-in s 0 (omega (arith, wide))) refl) ∙ free-value s s.standing range.free
+    let id = make_id-plus j s.first k in
+    let slot : slot_of (make_id j s.first + k) ≡ Some j = ap slot_of id ∙ slot_of-make_id j (s.first + k) (omega (arith, below, low, within)) in
+    let version : version_of (make_id j s.first + k) ≡ s.first + k = ap version_of id ∙ version_of-make_id j (s.first + k) (omega (arith, below, low, within)) in
+    (slot, look-at (make_id j s.first + k) slots (Taken s) (ap (λ o. slot_at o slots) slot ∙ at) ∙ seen-taken (version_of (make_id j s.first + k)) s (Some k) _ (ap (offset s) version ∙ offset-in s k within) range.free)
+
+same-number : (i j : ℕ) → Some i ≡ Some j → i ≡ j
+same-number i j e = cc
+
+-- The marks of a call that are past the moment are in the list without the mark that was due.
+past-marks : (moment first : ℕ) (mark : Mark) (waiting : List CallMark) (rest : List Mark) → mark.moment ≤ moment → HasMarks first waiting (mark ∷ rest) → HasIf (λ m. moment < m) first waiting rest
+past-marks moment first mark [] rest due all = tt
+past-marks moment first mark (w ∷ ws) rest due all = (by all.0, past-marks moment first mark ws rest due all.1)
   where
-    free-value : (s : Range Begun) (st : Standing') → st ≡ Free → value_says (seen_at s (Some 0) st) ≡ Some s.value
-    free-value s st e = rw e refl
-
--- A mark whose call was told finds none.
-gone-mark : (moment : ℕ) (mark : Mark) (rest : List Mark) (slots : List (Slot Begun)) (bound : ℕ) → AllByRecursion (IsSlot bound) slots → bound < 2 ^ 32 → value_says (look mark.id slots) ≡ None → AreMarked (mark ∷ rest) slots → AreMarked rest slots
-gone-mark moment mark rest slots bound open_ low none marked = drop-mark mark rest slots marked (λ j s at w a id m.
-    let some = range-looks slots bound j s open_ low at in
-    let both : None ≡ Some s.value = sym none ∙ ap (λ i. value_says (look i slots)) id ∙ some in
-    absurd (cc))
-
--- A mark whose call took its due marks isn't waited for any more.
-taken-mark : (moment : ℕ) (mark : Mark) (rest : List Mark) (slots : List (Slot Begun)) (i bound : ℕ) (r : Range Begun) (g : Slot Begun → Slot Begun) → AllByRecursion (IsSlot bound) slots → bound < 2 ^ 32 → slice_get slots i ≡ Some (Taken r) → mark.id ≡ make_id i r.first → mark.moment ≤ moment
-    → g (Taken r) ≡ Taken (visited r (weave moment r.value)) → AreMarked (mark ∷ rest) (change i g slots) → AreMarked rest (change i g slots)
-taken-mark moment mark rest slots i bound r g open_ low at own due is marked = drop-mark mark rest (change i g slots) marked (λ j s e w a id m. elim (same_or i j) [
-  | inl same ↦
-      let at_new : slice_get (change i g slots) i ≡ Some (Taken (visited r (weave moment r.value))) = slice_get-change i g slots (Taken r) at ∙ ap Some is in
-      let both : Some (Taken (visited r (weave moment r.value))) ≡ Some (Taken s) = sym at_new ∙ ap (slice_get (change i g slots)) same ∙ e in
-      let value : s.value ≡ weave moment r.value = same-value (visited r (weave moment r.value)) s both in
-      let range = slot-of-all (IsSlot bound) i slots (Taken r) open_ at in
-      let late : moment < w.moment = among-all (λ (x : Waits). moment < x.moment) (weave moment r.value).waiting w (weave-rest moment r.value range.few_marks) (subst (λ (b : Begun). IsAmong w b.waiting) value a) in
-      omega (arith, late, due, m)
-  | inr other ↦
-      let there : slice_get slots j ≡ Some (Taken s) = sym (slice_get-other i j g slots other) ∙ e in
-      let mine = slot-of-all (IsSlot bound) i slots (Taken r) open_ at in
-      let below = mine.below in
-      let wide = range-wide bound r mine in
-      let theirs = slot-of-all (IsSlot bound) j slots (Taken s) open_ there in
-      let below' = theirs.below in
-      let wide' = range-wide bound s theirs in
-      let ids : make_id i r.first ≡ make_id j s.first = sym own ∙ id in
-      let slots_are : Some i ≡ Some j = sym (slot_of-make_id i r.first (omega (arith, below, wide, low))) ∙ ap slot_of ids ∙ slot_of-make_id j s.first (omega (arith, below', wide', low)) in
-      other (same-number i j slots_are)
-])
-  where
-    same-value : (x s : Range Begun) → Some (Taken x) ≡ Some (Taken s) → s.value ≡ x.value
-    same-value x s e = let same : x ≡ s = cc in sym (ap (λ (y : Range Begun). y.value) same)
-
-    same-number : (i j : ℕ) → Some i ≡ Some j → i ≡ j
-    same-number i j e = cc
+    by : HasMark (first + w.node) w.moment (mark ∷ rest) → moment < w.moment → HasMark (first + w.node) w.moment rest
+    by (inl here) late = let same = here.1 in absurd (omega (arith, same, due, late))
+    by (inr there) late = there
 
 wakes : (slots : List (Slot Begun)) (ticket : Ticket) (moment : ℕ) → Changes slots ticket (turned (turn.Due moment)) (settle moment)
-wakes slots ticket moment = record { on_begun = λ b e. refl; on_told = λ call. refl; later = λ b. turned-later (turn.Due moment) b }
+wakes slots ticket moment = record { on_begun = λ b e. refl; on_told = λ call. refl; later = λ b. turned-later (turn.Due moment) b; fit = λ n b fit. turned-fit n (turn.Due moment) b fit }
 
--- What is left of the list then.
-mark-taken : (servers moment : ℕ) (mark : Mark) (rest : List Mark) (slots : List (Slot Begun)) (wires : List Link) (entries : List (ℕ × Option Ticket)) (call : ℕ) (ticket : Ticket) → IsSound slots entries → length entries ≤ 500000 → lookup (nat_eq call) entries ≡ Some (Some ticket)
-    → mark.id ≡ ticket.first → mark.moment ≤ moment → (after : List (Slot Begun)) → after ≡ changed (visit (turned (turn.Due moment)) (version_of (ticket.first + 0))) (ticket.first + 0) slots → AreMarked (mark ∷ rest) after → AreMarked rest after
-mark-taken servers moment mark rest slots wires entries call ticket sound few at own due after is marked = by (value_says (look ticket.first slots)) refl
+-- what a mark that is taken leaves: of slots and marks, and fewer of what may come
+pub record Wakes (slots after : List (Slot Begun)) (rest marks : List Mark) (entries : List (ℕ × Option Ticket)) (call moment : ℕ) : Type 0 where
+  pub brought : Brings slots after marks entries call (settle moment)
+  pub fewer : length marks + 2 * total_left after ≤ length rest + 2 * total_left slots
+
+pub mark-taken : (slots : List (Slot Begun)) (wires : List Link) (entries : List (ℕ × Option Ticket)) (call k moment : ℕ) (ticket : Ticket) (mark : Mark) (rest : List Mark) → IsSound slots entries → length entries ≤ 500000 → lookup (nat_eq call) entries ≡ Some (Some ticket)
+    → k < width_of ticket → mark.id ≡ ticket.first + k → mark.moment ≤ moment → AreMarked (mark ∷ rest) slots → AreOwned entries rest
+    → Wakes slots (changed (visit (turned (turn.Due moment)) (version_of (ticket.first + k))) (ticket.first + k) slots) rest (acts_by (ticket.first + k) (turned_by (turn.Due moment)) (look (ticket.first + k) slots) wires rest).1 entries call moment
+mark-taken slots wires entries call k moment ticket mark rest sound few at within own due marked owned = by (value_says (look ticket.first slots)) refl
   where
-    by : (x : Option Begun) → value_says (look ticket.first slots) ≡ x → AreMarked rest after
+    id : ℕ
+    id = ticket.first + k
+
+    low : most entries < 2 ^ 32
+    low = omega (arith, few)
+
+    follows : Follows slots (changed (visit (turned (turn.Due moment)) (version_of id)) id slots) entries call (settle moment)
+    follows = change-moved slots entries call ticket (turned (turn.Due moment)) (settle moment) k (wakes slots ticket moment) sound few at within
+
+    by : (x : Option Begun) → value_says (look ticket.first slots) ≡ x
+        → Wakes slots (changed (visit (turned (turn.Due moment)) (version_of id)) id slots) rest (acts_by id (turned_by (turn.Due moment)) (look id slots) wires rest).1 entries call moment
     by None none =
         let known = known-of slots call (Some ticket) entries sound.known at in
-        let low : most entries < 2 ^ 32 = omega (arith, few) in
         let o = is-over slots call ticket (most entries) known sound.open_slots low none in
-        let h = turned (turn.Due moment) in
-        let same : after ≡ slots = is ∙ over-nothing slots ticket o 0 (λ v. visit h v) known.0 (λ v s e. ap (λ x. visit_by h x s) e) in
-        subst (AreMarked rest) (sym same) (gone-mark moment mark rest slots (most entries) sound.open_slots low (ap (λ i. value_says (look i slots)) own ∙ none) (subst (AreMarked (mark ∷ rest)) same marked))
+        let there = over-look slots ticket o k within in
+        let nothing : look id slots ≡ Nothing = look-at id slots o.slot there.0 ∙ there.1 in
+        let same = over-nothing slots ticket o k (λ v. visit (turned (turn.Due moment)) v) within (λ v s e. ap (λ x. visit_by (turned (turn.Due moment)) x s) e) in
+        let silent : (acts_by id (turned_by (turn.Due moment)) (look id slots) wires rest).1 ≡ rest = ap (λ x. (acts_by id (turned_by (turn.Due moment)) x wires rest).1) nothing in
+        let left : AreMarked rest slots = λ j s there'.
+        drop-mark mark (make_id j s.first) s.size s.value.waiting rest (slot-of-all (IsSlot (most entries)) j slots (Taken s) sound.open_slots there').fit.nodes
+        (λ node less e. let finds = range-finds slots (most entries) j node s sound.open_slots low there' less in let both : Nothing ≡ Unlocked s node = sym nothing ∙ ap (λ i. look i slots) (sym own ∙ e) ∙ finds.1 in cc) (marked j s there') in
+        let a = ap (λ (ss : List (Slot Begun)). total_left ss) same in
+        let b = ap length silent in
+        record {
+          brought = record {
+            follows = follows;
+            marked = subst (λ ss. AreMarked (acts_by id (turned_by (turn.Due moment)) (look id slots) wires rest).1 ss) (sym same) (subst (λ ms. AreMarked ms slots) (sym silent) left);
+            owned = subst (AreOwned entries) (sym silent) owned;
+          };
+          fewer = omega (arith, a, b);
+        }
     by (Some b) value =
         let known = known-of slots call (Some ticket) entries sound.known at in
-        let low : most entries < 2 ^ 32 = omega (arith, few) in
         let l = lives slots call ticket b (most entries) known sound.open_slots value in
-        let it = found slots entries ticket b 0 l sound few known.0 in
-        let h = turned (turn.Due moment) in
-        let g = visit h (version_of (ticket.first + 0)) in
-        let here = finds-in slots ticket b (most entries) 0 l sound.open_slots low known.0 in
-        let shape : g (Taken l.r) ≡ Taken (visited l.r (weave moment l.r.value)) = ap (λ x. visit_by h x (Taken l.r)) here.1 in
-        let same : after ≡ change l.slot g slots = is ∙ ap (λ o. change_at o g slots) it.slot in
-        subst (AreMarked rest) (sym same) (taken-mark moment mark rest slots l.slot (most entries) l.r g sound.open_slots low l.at (own ∙ it.own) due shape (subst (AreMarked (mark ∷ rest)) same marked))
+        let it = found slots entries ticket b k l sound few within in
+        let range = slot-of-all (IsSlot (most entries)) l.slot slots (Taken l.r) sound.open_slots l.at in
+        let first = make_id l.slot l.r.first in
+        let g = visit (turned (turn.Due moment)) (version_of id) in
+        let a : Acting = record { call = l.r.value; wires = wires; marks = rest } in
+        let after = turned_by (turn.Due moment) first a in
+        let kept = turned-marked l.r.size (turn.Due moment) first a range.fit in
+        let here = finds-in slots ticket b (most entries) k l sound.open_slots low within in
+        let is : g (Taken l.r) ≡ Taken (visited l.r (weave moment l.r.value)) = ap (λ x. visit_by (turned (turn.Due moment)) x (Taken l.r)) here.1 in
+        let same : changed g id slots ≡ change l.slot g slots = ap (λ o. change_at o g slots) it.slot in
+        let out : (acts_by id (turned_by (turn.Due moment)) (look id slots) wires rest).1 ≡ after.marks =
+        ap (λ x. (acts_by id (turned_by (turn.Due moment)) x wires rest).1) it.looks ∙ ap (λ n. (turned_by (turn.Due moment) n a).marks) it.behind in
+        let past = kept.own (λ m. moment < m) (past-marks moment first mark l.r.value.waiting rest due (marked l.slot l.r l.at)) in
+        let call_is = turned-call (turn.Due moment) first a in
+        let mine : HasIf (λ m. moment < m) first (weave moment l.r.value).waiting after.marks = subst (λ (c : Begun). HasIf (λ m. moment < m) first c.waiting after.marks) call_is past in
+        let done : HasMarks first (weave moment l.r.value).waiting after.marks = all-if (λ m. moment < m) first (weave moment l.r.value).waiting after.marks (weave-rest l.r.size moment l.r.value range.fit) mine in
+        let step = marked-step slots l.slot l.r (visited l.r (weave moment l.r.value)) g a after l.at is refl done kept.others
+        (λ j s differ there. drop-mark mark (make_id j s.first) s.size s.value.waiting rest (slot-of-all (IsSlot (most entries)) j slots (Taken s) sound.open_slots there).fit.nodes
+        (λ node less e. let finds = range-finds slots (most entries) j node s sound.open_slots low there less in differ (same-number l.slot j (sym it.slot ∙ ap slot_of (sym own ∙ e) ∙ finds.0))) (marked j s there)) in
+        let fewer = (turned-fewer (turn.Due moment) first a).marks in
+        let total = total-change l.slot g slots (Taken l.r) l.at in
+        let own_left = ap left_in is in
+        let state_is = ap (λ (c : Begun). unstarted c.state) call_is in
+        let x = ap (λ (ss : List (Slot Begun)). total_left ss) same in
+        let y = ap length out in
+        record {
+          brought = record {
+            follows = follows;
+            marked = subst (λ ss. AreMarked (acts_by id (turned_by (turn.Due moment)) (look id slots) wires rest).1 ss) (sym same) (subst (λ ms. AreMarked ms (change l.slot g slots)) (sym out) step);
+            owned = subst (AreOwned entries) (sym out) (kept.ids (IsOwned entries) (own-ids entries call ticket at l.width it.own) owned);
+          };
+          fewer = omega (arith, fewer, total, own_left, state_is, x, y);
+        }
 
 -- ---- one turn of the loop
 
@@ -159,36 +162,35 @@ same-settled : (now new : Replay) (moment : ℕ) → now.reached ≡ moment → 
     → settled (replay_of new) ≡ settled (replay_of now)
 same-settled now new moment before after calls stood = rw (before, after, calls) (ap (λ (ss : List Standing). record { reached = moment; calls = ss }) stood)
 
--- the mark's call may issue attempts
-pub reaching-may : (script : Script) (now : Replay) (moment : ℕ) (mark : Mark) → IsReady script now → length now.calls.entries ≤ 500000 → script.slots ≤ 4096 → Some mark ≡ due_mark moment now.marks → LookMayIssue mark.id now.pool now.wires.items
-reaching-may script now moment mark ready few slots is_due =
-    let was = was-due moment mark now.marks is_due in
-    let own = (subst (AreFirstIds now.calls.entries) was.is ready.marks).0 in
-    rw own.is (own-may script now own.call own.ticket ready few slots own.found)
+-- what a turn leaves, and that less is left
+pub record Reaches (script : Script) (old now new : Replay) (moment : ℕ) : Type 0 where
+  pub reaching : IsReaching script old new moment
+  pub fewer : length new.marks + 2 * total_left new.pool < length now.marks + 2 * total_left now.pool
 
-pub reaching-turn : (script : Script) (old now new : Replay) (moment : ℕ) (mark : Mark) → IsReaching script old now moment → length now.calls.entries ≤ 500000 → Some mark ≡ due_mark moment now.marks → new.marks ≡ rest_after moment now.marks → new.reached ≡ now.reached → new.calls ≡ now.calls
-    → new.pool ≡ changed (visit (turned (turn.Due moment)) (version_of mark.id)) mark.id now.pool → new.wires.items ≡ issue_by mark.id (turned (turn.Due moment)) (look mark.id now.pool) now.wires.items → IsReaching script old new moment
-reaching-turn script old now new moment mark r few is_due rest reached calls pool wires =
+pub reaching-turn : (script : Script) (old now new : Replay) (moment : ℕ) (mark : Mark) → IsReaching script old now moment → length now.calls.entries ≤ 500000 → Some mark ≡ due_mark moment now.marks → new.reached ≡ now.reached → new.calls ≡ now.calls
+    → new.pool ≡ changed (visit (turned (turn.Due moment)) (version_of mark.id)) mark.id now.pool
+    → (new.wires.items, new.marks) ≡ acts_by mark.id (turned_by (turn.Due moment)) (look mark.id now.pool) now.wires.items (rest_after moment now.marks) → Reaches script old now new moment
+reaching-turn script old now new moment mark r few is_due reached calls pool acts =
     let was = was-due moment mark now.marks is_due in
-    let all : AreFirstIds now.calls.entries (mark ∷ rest_after moment now.marks) = subst (AreFirstIds now.calls.entries) was.is r.ready.marks in
+    let rest = rest_after moment now.marks in
+    let all : AreOwned now.calls.entries (mark ∷ rest) = subst (AreOwned now.calls.entries) was.is r.ready.owned in
     let own = all.0 in
-    let known = known-of now.pool own.call (Some own.ticket) now.calls.entries r.ready.sound.known own.found in
-    let h = turned (turn.Due moment) in
-    let zero_more : own.ticket.first + 0 ≡ mark.id = (let same : own.ticket.first + 0 ≡ own.ticket.first = omega arith in same ∙ sym own.is) in
-    let b = brings script.servers now.pool now.wires.items now.marks now.calls.entries own.call own.ticket h (settle moment) 0 (wakes now.pool own.ticket moment) r.ready.sound few own.found known.0 r.ready.wired r.ready.marked in
-    let slots_are : new.pool ≡ changed (visit h (version_of (own.ticket.first + 0))) (own.ticket.first + 0) now.pool = pool ∙ ap (λ id. changed (visit h (version_of id)) id now.pool) (sym zero_more) in
-    let wires_are : new.wires.items ≡ issue_by (own.ticket.first + 0) h (look (own.ticket.first + 0) now.pool) now.wires.items = wires ∙ ap (λ id. issue_by id h (look id now.pool) now.wires.items) (sym zero_more) in
-    let here : Brings script.servers now.pool new.pool new.wires.items now.marks now.calls.entries own.call (settle moment) =
-    rw (slots_are, wires_are) b in
-    let marked : AreMarked (rest_after moment now.marks) new.pool =
-    mark-taken script.servers moment mark (rest_after moment now.marks) now.pool now.wires.items now.calls.entries own.call own.ticket r.ready.sound few own.found own.is was.due new.pool slots_are (subst (λ ms. AreMarked ms new.pool) was.is here.marked) in
-    let left : Brings script.servers now.pool new.pool new.wires.items new.marks now.calls.entries own.call (settle moment) = record { follows = here.follows; wired = here.wired; marked = subst (λ ms. AreMarked ms new.pool) (sym rest) marked } in
-    let sparse = ready-sparse script now r.ready in
-    let stood : map (settle moment) (standings new.pool now.calls.entries) ≡ map (settle moment) (standings now.pool now.calls.entries) = ap (map (settle moment)) here.follows.stands ∙ settle-first (is_call own.call) moment (standings now.pool now.calls.entries) sparse in
+    let t = turn.Due moment in
+    let marks_are : new.marks ≡ (acts_by mark.id (turned_by t) (look mark.id now.pool) now.wires.items rest).1 = ap (λ (p : List Link × List Mark). p.1) acts in
+    let wires_are : length new.wires.items ≡ length now.wires.items = ap (λ (p : List Link × List Mark). length p.0) acts ∙ acts-wires mark.id (turned_by t) (look mark.id now.pool) now.wires.items rest (λ first a. turned-fewer t first a) in
+    let woke = mark-taken now.pool now.wires.items now.calls.entries own.call own.place moment own.ticket mark rest r.ready.sound few own.found own.within own.is was.due (subst (λ ms. AreMarked ms now.pool) was.is r.ready.marked) all.1 in
+    let here : Wakes now.pool new.pool rest new.marks now.calls.entries own.call moment =
+    rw (pool, marks_are) (subst (λ i. Wakes now.pool (changed (visit (turned t) (version_of i)) i now.pool) rest (acts_by i (turned_by t) (look i now.pool) now.wires.items rest).1 now.calls.entries own.call moment) (sym own.is) woke) in
+    let stood : map (settle moment) (standings new.pool now.calls.entries) ≡ map (settle moment) (standings now.pool now.calls.entries) = ap (map (settle moment)) here.brought.follows.stands ∙ settle-first (is_call own.call) moment (standings now.pool now.calls.entries) in
     let moments : new.reached ≡ moment = reached ∙ r.reached in
+    let l = ap length was.is in
+    let less = here.fewer in
     record {
-      ready = ready-brings script now new own.call (settle moment) r.ready left calls (subst (AreFirstIds now.calls.entries) (sym rest) all.1);
-      reached = moments;
-      calls = calls ∙ r.calls;
-      alike = same-settled now new moment r.reached moments calls stood ∙ r.alike;
+      reaching = record {
+        ready = ready-brings script now new own.call (settle moment) r.ready here.brought calls wires_are;
+        reached = moments;
+        calls = calls ∙ r.calls;
+        alike = same-settled now new moment r.reached moments calls stood ∙ r.alike;
+      };
+      fewer = omega (arith, l, less);
     }

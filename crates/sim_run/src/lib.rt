@@ -6,6 +6,7 @@ mod acting;
 mod marking;
 mod open_call;
 mod planning;
+mod probe;
 mod replaying;
 mod slots;
 mod state;
