@@ -1,7 +1,11 @@
+pub mod Chans
+pub mod Leaves
+pub mod Setting
 pub mod Fit
 pub mod Later
 pub mod Acts
 pub mod Fewer
+pub mod Taking
 pub mod Changes
 pub mod Joins
 pub mod Apart

@@ -2,9 +2,11 @@
 use Rattle.std.proofs.Common.{◌≡◌, ℕ, ◌≤◌, nat_le, List, count_by, Option, None, Some, Result, Ok, Err, OnOk, ap, sym, refl, ◌∙◌, arith}
 use Rattle.rpc_model.specs.declared.event.Event.{Event}
 use Rattle.rpc_model.specs.declared.script.Script.{Script}
+use Rattle.rpc_model.specs.declared.kinds.MapKind.{MapKind}
+use Rattle.rpc_model.specs.declared.kinds.MergeKind.{MergeKind}
 use Rattle.rpc_model.specs.Plan.{Plan}
 use Rattle.rpc_model.specs.Told.{Replay, is_begun, is_full, call_after, call_event, call_tells}
-use Rattle.rpc_model.specs.Early.{settled, AreSparse}
+use Rattle.rpc_model.specs.Early.{settled}
 use Rattle.rpc_model.proofs.Early.{event-line, call-line, count-settled}
 
 -- What follows from a clause that holds where a call answers `Ok`.
@@ -13,24 +15,24 @@ on_ok P Q (Ok x) f p = f p
 on_ok P Q (Err e) f p = tt
 
 -- an event of a call
-pub event-step : (script : Script) (s t next : Replay) (m call : ℕ) (e : Event) → s.reached ≡ m → AreSparse s → AreSparse t → settled s ≡ settled (record t { reached = m }) → next ≡ call_event s s.reached call e → settled next ≡ settled (call_event t m call e)
-event-step script s t next m call e reached few few' alike after =
+pub event-step : (script : Script) (s t next : Replay) (m call : ℕ) (e : Event) → s.reached ≡ m → settled s ≡ settled (record t { reached = m }) → next ≡ call_event s s.reached call e → settled next ≡ settled (call_event t m call e)
+event-step script s t next m call e reached alike after =
     let mine : settled next ≡ settled (call_event s m call e) = ap settled (after ∙ ap (λ n. call_event s n call e) reached) in
     let le : s.reached ≤ m = omega (arith, reached) in
-    mine ∙ sym (event-line script s m call e le few) ∙ ap (λ r. settled (call_event r m call e)) alike ∙ event-line script (record t { reached = m }) m call e (omega arith) few'
+    mine ∙ sym (event-line script s m call e le) ∙ ap (λ r. settled (call_event r m call e)) alike ∙ event-line script (record t { reached = m }) m call e (omega arith)
 
 -- where a plan is found, only the calls count
-call-behind : (script : Script) (t : Replay) (m call : ℕ) (text : List ℕ) (o : Option Plan) → call_after script (record t { reached = m }) m call text o ≡ call_after script t m call text o
+call-behind : (script : Script) (t : Replay) (m call : ℕ) (text : List ℕ) (o : Option (Plan MapKind MergeKind)) → call_after script (record t { reached = m }) m call text o ≡ call_after script t m call text o
 call-behind script t m call text None = refl
 call-behind script t m call text (Some p) = refl
 
 -- a call that begins
-pub call-step : (script : Script) (s t next : Replay) (m call : ℕ) (text : List ℕ) (o : Option Plan) → s.reached ≡ m → AreSparse s → AreSparse t → settled s ≡ settled (record t { reached = m }) → next ≡ call_after script s s.reached call text o
+pub call-step : (script : Script) (s t next : Replay) (m call : ℕ) (text : List ℕ) (o : Option (Plan MapKind MergeKind)) → s.reached ≡ m → settled s ≡ settled (record t { reached = m }) → next ≡ call_after script s s.reached call text o
     → settled next ≡ settled (call_after script t m call text o)
-call-step script s t next m call text o reached few few' alike after =
+call-step script s t next m call text o reached alike after =
     let mine : settled next ≡ settled (call_after script s m call text o) = ap settled (after ∙ ap (λ n. call_after script s n call text o) reached) in
     let le : s.reached ≤ m = omega (arith, reached) in
-    mine ∙ sym (call-line script s m call text o le few) ∙ ap (λ r. settled (call_after script r m call text o)) alike ∙ call-line script (record t { reached = m }) m call text o (omega arith) few'
+    mine ∙ sym (call-line script s m call text o le) ∙ ap (λ r. settled (call_after script r m call text o)) alike ∙ call-line script (record t { reached = m }) m call text o (omega arith)
     ∙ ap settled (call-behind script t m call text o)
 
 -- The same calls have begun.
@@ -40,5 +42,5 @@ full-behind script s t m alike =
     ap (nat_le script.slots) count
 
 -- what its line tells
-pub call-says : (script : Script) (s t : Replay) (m call : ℕ) (o : Option Plan) → settled s ≡ settled (record t { reached = m }) → call_tells (is_full script s) call o ≡ call_tells (is_full script t) call o
+pub call-says : (script : Script) (s t : Replay) (m call : ℕ) (o : Option (Plan MapKind MergeKind)) → settled s ≡ settled (record t { reached = m }) → call_tells (is_full script s) call o ≡ call_tells (is_full script t) call o
 call-says script s t m call o alike = ap (λ v. call_tells v call o) (full-behind script s t m alike)

@@ -1,37 +1,61 @@
 -- A call line of a replay.
-use Rattle.std.proofs.Common.{◌≡◌, ◌≢◌, ℕ, ◌+◌, ◌*◌, ◌^◌, ◌<◌, ◌≤◌, true, false, nat_eq, List, [], ◌∷◌, ◌++◌, length, slice_get, count_by, Option, None, Some, ap, sym, refl, ◌∙◌, subst, arith, is_some, if◌then◌else◌}
-use Rattle.std.proofs.lemmas.Bool.{eqb-false, ne_eqb}
+use Rattle.std.proofs.Common.{◌≡◌, ◌≢◌, ℕ, ◌+◌, ◌*◌, ◌^◌, ◌<◌, ◌≤◌, inl, inr, Bool, true, false, nat_eq, List, [], ◌∷◌, ◌++◌, length, slice_get, count_by, Option, None, Some, ap, sym, refl, ◌∙◌, subst, arith, if◌then◌else◌}
+use Rattle.std.proofs.lemmas.Bool.{eqb-false, eq-eqb, ne_eqb}
 use Rattle.std.proofs.lemmas.Bool.Decides.{nat_tests}
 use Rattle.std.proofs.lemmas.Map.Keys.{IsDistinct-head, IsDistinct-tail}
 use Rattle.std.specs.List.{IsDistinct, AllByRecursion}
 use Rattle.std.specs.Map.{keys_of, lookup}
 use Rattle.std.specs.Option.{option_map}
-use Rattle.rpc_model.specs.declared.chan.LeafChan.{LeafChan}
+use Rattle.rpc_model.specs.declared.kinds.MapKind.{MapKind}
+use Rattle.rpc_model.specs.declared.kinds.MergeKind.{MergeKind}
 use Rattle.rpc_model.specs.declared.script.Script.{Script}
-use Rattle.rpc_model.specs.Limits.{IsLeaf}
-use Rattle.rpc_model.specs.Plan.{Plan, leaf_plan, plan}
+use Rattle.rpc_model.specs.Kinds.{script_kinds}
+use Rattle.rpc_model.specs.Machine.{start}
+use Rattle.rpc_model.specs.Plan.{Plan}
+use Rattle.rpc_model.specs.Served.{AreServed}
+use Rattle.rpc_model.specs.Versions.{width}
 use Rattle.rpc_model.specs.Marks.{Begun, begin}
 use Rattle.rpc_model.specs.declared.told.Told.TheVariants.{Full as TellsFull}
 use Rattle.rpc_model.specs.Told as spec
 use Rattle.rpc_model.specs.Told.{begun, full}
-use Rattle.id_pool.specs.Ids.{make_id, slot_of, version_of}
-use Rattle.id_pool.proofs.Ids.{slot_of-make_id, version_of-make_id, make_id-plus}
-use Rattle.id_pool.specs.Ranges.{Slot, Vacant, Taken, is_width, lowest, created, created_at, change, fresh, slot_at}
-use Rattle.link_core.specs.Outstanding.{is_outstanding, call_of}
+use Rattle.rpc_model.proofs.Within.{start-within}
+use Rattle.chan_tree.proofs.Offsets.{few_attempts}
+use Rattle.id_pool.specs.Ids.{make_id}
+use Rattle.id_pool.specs.Ranges.{Slot, Vacant, Taken, Range, is_width, lowest, created, created_at, change, fresh}
+use Rattle.timer_core.specs.declared.mark.Mark.{Mark}
 use Rattle.sim_run.specs.declared.ticket.Ticket.{Ticket}
 use Rattle.sim_run.specs.declared.state.Replay.{Replay}
-use Rattle.sim_run.specs.Link.{Link}
-use Rattle.rpc_model.proofs.Early.{begin-sparse}
-use Rattle.sim_run.specs.Wires.{IsChangedAt, sent, server_on}
-use Rattle.sim_run.specs.Sends.{server_in}
-use Rattle.sim_run.specs.Marked.{AreMarked, with_marks}
-use Rattle.sim_run.specs.Desk.{standings, IsSlot, IsPast, IsPastIn, IsWire, IsWired, IsOn, IsReady, replay_of}
-use Rattle.sim_run.proofs.Entries.{slot-of-all}
-use Rattle.sim_run.proofs.Begins.{Joined, lowest-at, all-taken, not-all-taken, call-begins, full-begins, All-snoc, All-weaken}
+use Rattle.sim_run.specs.Marked.{marked, HasMarks, AreMarked, IsOwned, AreOwned}
+use Rattle.sim_run.specs.Desk.{standings, plan_of, width_of, IsSlot, IsServedIn, IsReady, replay_of}
+use Rattle.sim_run.proofs.Changes.{slice_get-change}
+use Rattle.sim_run.proofs.Apart.{same_or, slice_get-other}
+use Rattle.sim_run.proofs.Acts.{marks-set, all-has, has-marked, ids-set}
+use Rattle.sim_run.proofs.Fit.{begin-fit}
+use Rattle.sim_run.proofs.Entries.{found_if, slot-of-all}
+use Rattle.sim_run.proofs.Steps.{plan-wide}
+use Rattle.sim_run.proofs.Begins.{Joined, lowest-at, all-taken, not-all-taken, call-begins, full-begins, All-snoc}
 use Rattle.sim_run.proofs.Brings.{slice_get-within}
-use Rattle.sim_run.proofs.Sends.{plan-server}
-use Rattle.sim_run.proofs.Wired.{wired-begin}
-use Rattle.sim_run.proofs.Marked.{marked-begin, first-begin, first-more}
+
+-- ---- look-ups in one entry more
+
+lookup-more : (key : ℕ) (x : Option Ticket) (last : ℕ × Option Ticket) (entries : List (ℕ × Option Ticket)) → lookup (nat_eq key) entries ≡ Some x → lookup (nat_eq key) (entries ++ last ∷ []) ≡ Some x
+lookup-more key x last [] e = absurd (cc)
+lookup-more key x last ((number, o) ∷ xs) e = elim (found_if (nat_eq key number) o x (lookup (nat_eq key) xs) e) [
+  | inl here ↦ ap (λ b. if b then Some o else lookup (nat_eq key) (xs ++ last ∷ [])) here.0 ∙ ap Some here.1
+  | inr there ↦ ap (λ b. if b then Some o else lookup (nat_eq key) (xs ++ last ∷ [])) there.0 ∙ lookup-more key x last xs there.1
+]
+
+lookup-last : (key : ℕ) (x : Option Ticket) (entries : List (ℕ × Option Ticket)) → lookup (nat_eq key) entries ≡ None → lookup (nat_eq key) (entries ++ (key, x) ∷ []) ≡ Some x
+lookup-last key x [] e = ap (λ b. if b then Some x else None) (nat_eq-same key)
+  where
+    nat_eq-same : (n : ℕ) → nat_eq n n ≡ true
+    nat_eq-same n = grind (arith, nat_tests)
+lookup-last key x ((number, o) ∷ xs) e = by (nat_eq key number) refl e (λ h. lookup-last key x xs h)
+  where
+    by : (b : Bool) → nat_eq key number ≡ b → (if b then Some o else lookup (nat_eq key) xs) ≡ None → (lookup (nat_eq key) xs ≡ None → lookup (nat_eq key) (xs ++ (key, x) ∷ []) ≡ Some x)
+        → (if nat_eq key number then Some o else lookup (nat_eq key) (xs ++ (key, x) ∷ [])) ≡ Some x
+    by true t e again = absurd (cc)
+    by false t e again = ap (λ b. if b then Some o else lookup (nat_eq key) (xs ++ (key, x) ∷ [])) t ∙ again e
 
 -- ---- the pool's answer
 
@@ -87,51 +111,16 @@ isn't-full script old i next ready at =
     let lt : count_by spec.is_begun (standings old.pool old.calls.entries) < script.slots = omega (arith, few, c, n) in
     grind (arith, nat_tests)
 
--- ---- the wires
-
--- An id of a range to come waits nowhere.
-waits-not : (slots : List (Slot Begun)) (i next id : ℕ) (waiting : List (ℕ × ℕ)) → slice_get slots i ≡ Some (Vacant next) → slot_of id ≡ Some i → next ≤ version_of id → AllByRecursion (λ entry. IsPast slots entry.0) waiting → is_outstanding id waiting ≡ false
-waits-not slots i next id [] at slot version past = refl
-waits-not slots i next id (x ∷ xs) at slot version past =
-    let differ : id ≢ x.0 = λ same. (let here : slot_at (slot_of x.0) slots ≡ Some (Vacant next) = ap (λ o. slot_at o slots) (sym (ap slot_of same) ∙ slot) ∙ at in let low : version_of x.0 < next = subst (IsPastIn (version_of x.0)) here past.0 in let e = ap version_of same in omega (arith, low, version, e)) in
-    ap (λ b. is_some (if b then Some x.1 else call_of id xs)) (ne_eqb id x.0 differ) ∙ waits-not slots i next id xs at slot version past.1
-
-pub silent : (slots : List (Slot Begun)) (i next id : ℕ) (wires : List Link) → slice_get slots i ≡ Some (Vacant next) → slot_of id ≡ Some i → next ≤ version_of id → AllByRecursion (IsWire slots) wires → AllByRecursion (λ w. is_outstanding id w.waiting ≡ false) wires
-silent slots i next id wires at slot version all = All-weaken (IsWire slots) (λ w. is_outstanding id w.waiting ≡ false) wires (λ w past. waits-not slots i next id w.waiting at slot version past) all
-
 -- ---- the call line
 
--- what is known of a new call
-pub record IsNewCall (script : Script) (call chan width : ℕ) (leaf : LeafChan) : Type 0 where
-  pub leaf_fits : IsLeaf script.servers leaf
-  pub on : chan < length script.chans
-  pub planned : plan script.chans chan call ≡ Some (leaf_plan leaf)
-  pub sized : width ≡ leaf.retry + 2
-
--- A call that took a slot leaves the plain machine's calls with it, and the replay ready.
-begun-joined : (old : Replay) (script : Script) (call width first chan moment : ℕ) (leaf : LeafChan) (text : List ℕ) (entries : List (ℕ × Option Ticket)) (after : List (Slot Begun)) → IsReady script old → length old.calls.entries ≤ 500000 → IsNewCall script call chan width leaf
-    → (p : Place old.pool width first (begin call (leaf_plan leaf) text moment)) → after ≡ created width (begin call (leaf_plan leaf) text moment) old.pool → entries ≡ old.calls.entries ++ (call, Some (record { first = first; width = width; chan = chan })) ∷ [] → IsDistinct nat_eq (keys_of entries)
-    → Joined old.pool after old.calls.entries call (Some (record { first = first; width = width; chan = chan })) (begun (begin call (leaf_plan leaf) text moment))
-begun-joined old script call width first chan moment leaf text entries after ready few new p made put once =
-    let b = begin call (leaf_plan leaf) text moment in
-    let sized = new.sized in
-    let retries = new.leaf_fits.few_retries in
-    let ticket : Ticket = record { first = make_id p.slot p.next; width = width; chan = chan } in
-    let same : Some (record { first = first; width = width; chan = chan }) ≡ Some ticket = ap (λ (id : ℕ). Some (record { first = id; width = width; chan = chan })) p.is in
-    let put' : entries ≡ old.calls.entries ++ (call, Some ticket) ∷ [] = put ∙ ap (λ (o : Option Ticket). old.calls.entries ++ (call, o) ∷ []) same in
-    let j = call-begins old.pool old.calls.entries call p.slot p.next width chan b ready.sound few p.at (omega (arith, sized)) (omega (arith, sized)) (omega (arith, sized, retries)) refl (omega arith) (begin-sparse call (leaf_plan leaf) text moment)
-    (subst (λ es. IsDistinct nat_eq (keys_of es)) put' once) in
-    subst (λ o. Joined old.pool after old.calls.entries call o (begun b)) (sym same) (subst (λ ss. Joined old.pool ss old.calls.entries call (Some ticket) (begun b)) (sym (made ∙ p.after)) j)
-
--- that id waits nowhere yet
-pub first-silent : (old : Replay) (script : Script) (width first : ℕ) (b : Begun) → IsReady script old → length old.calls.entries ≤ 500000 → (p : Place old.pool width first b) → AllByRecursion (λ w. is_outstanding (first + 1) w.waiting ≡ false) old.wires.items
-first-silent old script width first b ready few p =
-    let top : p.next ≤ 1 + 1024 * length old.calls.entries = slot-of-all (IsSlot (1 + 1024 * length old.calls.entries)) p.slot old.pool (Vacant p.next) ready.sound.open_slots p.at in
-    let low : p.next + 1 < 2 ^ 32 = omega (arith, top, few) in
-    let id : first + 1 ≡ make_id p.slot (p.next + 1) = ap (λ n. n + 1) p.is ∙ make_id-plus p.slot p.next 1 in
-    let slot : slot_of (first + 1) ≡ Some p.slot = ap slot_of id ∙ slot_of-make_id p.slot (p.next + 1) low in
-    let version : version_of (first + 1) ≡ p.next + 1 = ap version_of id ∙ version_of-make_id p.slot (p.next + 1) low in
-    silent old.pool p.slot p.next (first + 1) old.wires.items p.at slot (omega (arith, version)) ready.wired.waiting
+-- A call that took a slot leaves the plain machine's calls with it.
+begun-joined : (old : Replay) (script : Script) (call moment : ℕ) (ticket : Ticket) (text : List ℕ) (entries : List (ℕ × Option Ticket)) (after : List (Slot Begun)) → IsReady script old → length old.calls.entries ≤ 500000 → width_of ticket ≤ 1024
+    → (p : Place old.pool (width_of ticket) ticket.first (begin call (plan_of ticket) text moment)) → after ≡ created (width_of ticket) (begin call (plan_of ticket) text moment) old.pool → entries ≡ old.calls.entries ++ (call, Some ticket) ∷ [] → IsDistinct nat_eq (keys_of entries)
+    → Joined old.pool after old.calls.entries call (Some ticket) (begun (begin call (plan_of ticket) text moment))
+begun-joined old script call moment ticket text entries after ready few narrow p made put once =
+    let b = begin call (plan_of ticket) text moment in
+    let j = call-begins old.pool old.calls.entries call p.slot p.next ticket b ready.sound few p.at p.is refl (plan-wide (plan_of ticket)) narrow refl (begin-fit call (plan_of ticket) text moment) (subst (λ es. IsDistinct nat_eq (keys_of es)) put once) in
+    subst (λ ss. Joined old.pool ss old.calls.entries call (Some ticket) (begun b)) (sym (made ∙ p.after)) j
 
 -- The first id is low.
 pub first-low : (old : Replay) (script : Script) (width first : ℕ) (b : Begun) → IsReady script old → length old.calls.entries ≤ 500000 → script.slots ≤ 4096 → (p : Place old.pool width first b) → first < 2 ^ 63
@@ -142,41 +131,63 @@ first-low old script width first b ready few slots p =
     let is = p.is in
     omega (arith, top, few, within, n, slots, is)
 
-pub call-ready : (old new : Replay) (script : Script) (call width first chan moment : ℕ) (leaf : LeafChan) (text : List ℕ) → IsReady script old → length old.calls.entries ≤ 500000 → IsNewCall script call chan width leaf → lookup (nat_eq call) old.calls.entries ≡ None
-    → (p : Place old.pool width first (begin call (leaf_plan leaf) text moment)) → new.pool ≡ created width (begin call (leaf_plan leaf) text moment) old.pool → new.calls.entries ≡ old.calls.entries ++ (call, Some (record { first = first; width = width; chan = chan })) ∷ []
-    → IsDistinct nat_eq (keys_of new.calls.entries) → new.marks ≡ with_marks first leaf moment old.marks → IsChangedAt (server_on script.chans chan call 0) (sent (first + 1) call text) old.wires.items new.wires.items → IsReady script new
-call-ready old new script call width first chan moment leaf text ready few is_new none p made put once marked out =
-    let b = begin call (leaf_plan leaf) text moment in
-    let ticket : Ticket = record { first = first; width = width; chan = chan } in
-    let j = begun-joined old script call width first chan moment leaf text new.calls.entries new.pool ready few is_new p made put once in
-    let top : p.next ≤ 1 + 1024 * length old.calls.entries = slot-of-all (IsSlot (1 + 1024 * length old.calls.entries)) p.slot old.pool (Vacant p.next) ready.sound.open_slots p.at in
-    let low : p.next + 1 < 2 ^ 32 = omega (arith, top, few) in
-    let to : IsChangedAt (server_in (leaf_plan leaf) call 0) (sent (make_id p.slot p.next + 1) call text) old.wires.items new.wires.items =
-    subst (λ s. IsChangedAt s (sent (make_id p.slot p.next + 1) call text) old.wires.items new.wires.items) (plan-server (slice_get script.chans chan) leaf call 0 is_new.planned)
-    (subst (λ id. IsChangedAt (server_on script.chans chan call 0) (sent (id + 1) call text) old.wires.items new.wires.items) p.is out) in
-    let wired = wired-begin script.servers old.pool old.wires.items new.wires.items p.slot p.next width b ready.wired p.at low refl (is_new.leaf_fits.some_server, is_new.leaf_fits.known_servers) to in
-    let waits = marked-begin old.pool p.slot p.next width call moment leaf text old.marks ready.marked p.at in
+-- Each mark that a call waits for is among all marks, and each of those is a call's.
+owned-more : (entries : List (ℕ × Option Ticket)) (call : ℕ) (o : Option Ticket) (id : ℕ) → lookup (nat_eq call) entries ≡ None → IsOwned entries id → IsOwned (entries ++ (call, o) ∷ []) id
+owned-more entries call o id none own = record { call = own.call; ticket = own.ticket; place = own.place; found = lookup-more own.call (Some own.ticket) (call, o) entries own.found; within = own.within; is = own.is }
+
+all-owned-more : (entries : List (ℕ × Option Ticket)) (call : ℕ) (o : Option Ticket) (marks : List Mark) → lookup (nat_eq call) entries ≡ None → AreOwned entries marks → AreOwned (entries ++ (call, o) ∷ []) marks
+all-owned-more entries call o [] none all = tt
+all-owned-more entries call o (m ∷ ms) none all = (owned-more entries call o m.id none all.0, all-owned-more entries call o ms none all.1)
+
+pub call-ready : (old new : Replay) (script : Script) (call moment : ℕ) (ticket : Ticket) (text : List ℕ) → IsReady script old → length old.calls.entries ≤ 500000 → width_of ticket ≤ 1024 → AreServed script.servers (plan_of ticket) → lookup (nat_eq call) old.calls.entries ≡ None
+    → (p : Place old.pool (width_of ticket) ticket.first (begin call (plan_of ticket) text moment)) → new.pool ≡ created (width_of ticket) (begin call (plan_of ticket) text moment) old.pool → new.calls.entries ≡ old.calls.entries ++ (call, Some ticket) ∷ []
+    → IsDistinct nat_eq (keys_of new.calls.entries) → new.marks ≡ marked ticket.first (start script_kinds (plan_of ticket) call text moment).marks old.marks → length new.wires.items ≡ length old.wires.items → IsReady script new
+call-ready old new script call moment ticket text ready few narrow served none p made put once set wires =
+    let plan = plan_of ticket in
+    let run = start script_kinds plan call text moment in
+    let b = begin call plan text moment in
+    let j = begun-joined old script call moment ticket text new.calls.entries new.pool ready few narrow p made put once in
+    let g : Slot Begun → Slot Begun = λ s. Taken (fresh p.next (width_of ticket) b) in
+    let own : HasMarks ticket.first b.waiting (marked ticket.first run.marks old.marks) = marks-set ticket.first run.marks [] old.marks tt in
+    let waits : AreMarked (marked ticket.first run.marks old.marks) (change p.slot g old.pool) = λ i x there. elim (same_or p.slot i) [
+      | inl same ↦
+          let at_new : slice_get (change p.slot g old.pool) i ≡ Some (Taken (fresh p.next (width_of ticket) b)) = ap (slice_get (change p.slot g old.pool)) (sym same) ∙ slice_get-change p.slot g old.pool (Vacant p.next) p.at in
+          let both : Some (Taken (fresh p.next (width_of ticket) b)) ≡ Some (Taken x) = sym at_new ∙ there in
+          let is : fresh p.next (width_of ticket) b ≡ x = same-taken _ x both in
+          subst (λ (y : Range Begun). HasMarks (make_id i y.first) y.value.waiting (marked ticket.first run.marks old.marks)) is
+          (subst (λ n. HasMarks (make_id n p.next) b.waiting (marked ticket.first run.marks old.marks)) same (subst (λ f. HasMarks f b.waiting (marked ticket.first run.marks old.marks)) p.is own))
+      | inr other ↦
+          let here : slice_get old.pool i ≡ Some (Taken x) = sym (slice_get-other p.slot i g old.pool other) ∙ there in
+          all-has (make_id i x.first) x.value.waiting old.marks (marked ticket.first run.marks old.marks) (λ id m h. has-marked id m ticket.first run.marks old.marks h) (ready.marked i x here)
+    ] in
+    let entries = old.calls.entries ++ (call, Some ticket) ∷ [] in
+    let within = start-within script_kinds (width plan) 0 plan call text moment (let w = few_attempts plan in omega (arith, w)) in
+    let mine : (node : ℕ) → node < width plan → IsOwned entries (ticket.first + node) = λ node less. record { call = call; ticket = ticket; place = node; found = lookup-last call (Some ticket) old.calls.entries none; within = less; is = refl } in
+    let owned : AreOwned entries (marked ticket.first run.marks old.marks) = ids-set (IsOwned entries) (width plan) ticket.first run.marks old.marks mine within (all-owned-more old.calls.entries call (Some ticket) old.marks none ready.owned) in
     record {
       sound = rw put j.sound;
       pool = j.size ∙ ready.pool;
-      wired = subst (λ ss. IsWired script.servers ss new.wires.items) (sym (made ∙ p.after)) wired;
-      channels = rw put (All-snoc (λ entry. IsOn (length script.chans) entry.1) old.calls.entries (call, Some ticket) ready.channels is_new.on);
-      marked = subst (λ ms. AreMarked ms new.pool) (sym (marked ∙ ap (λ id. with_marks id leaf moment old.marks) p.is)) (subst (AreMarked (with_marks (make_id p.slot p.next) leaf moment old.marks)) (sym (made ∙ p.after)) waits);
-      marks = rw (put, marked) (first-begin call ticket old.calls.entries leaf moment old.marks none ready.marks);
+      wires = wires ∙ ready.wires;
+      marked = rw (set, made, p.after) waits;
+      owned = rw (put, set) owned;
+      served = rw put (All-snoc (λ entry. IsServedIn script.servers entry.1) old.calls.entries (call, Some ticket) ready.served served);
     }
+  where
+    same-taken : (s x : Range Begun) → Some (Taken s) ≡ Some (Taken x) → s ≡ x
+    same-taken s x e = cc
 
-pub call-after : (old new : Replay) (script : Script) (moment call width first chan : ℕ) (leaf : LeafChan) (text : List ℕ) → IsReady script old → length old.calls.entries ≤ 500000 → IsNewCall script call chan width leaf
-    → (p : Place old.pool width first (begin call (leaf_plan leaf) text moment)) → new.pool ≡ created width (begin call (leaf_plan leaf) text moment) old.pool → new.calls.entries ≡ old.calls.entries ++ (call, Some (record { first = first; width = width; chan = chan })) ∷ []
-    → IsDistinct nat_eq (keys_of new.calls.entries) → new.reached ≡ moment → replay_of new ≡ spec.call_after script (replay_of old) moment call text (plan script.chans chan call)
-call-after old new script moment call width first chan leaf text ready few is_new p made put once reached =
-    let j = begun-joined old script call width first chan moment leaf text new.calls.entries new.pool ready few is_new p made put once in
+pub call-after : (old new : Replay) (script : Script) (moment call : ℕ) (ticket : Ticket) (text : List ℕ) (o : Option (Plan MapKind MergeKind)) → o ≡ Some (plan_of ticket) → IsReady script old → length old.calls.entries ≤ 500000 → width_of ticket ≤ 1024
+    → (p : Place old.pool (width_of ticket) ticket.first (begin call (plan_of ticket) text moment)) → new.pool ≡ created (width_of ticket) (begin call (plan_of ticket) text moment) old.pool → new.calls.entries ≡ old.calls.entries ++ (call, Some ticket) ∷ []
+    → IsDistinct nat_eq (keys_of new.calls.entries) → new.reached ≡ moment → replay_of new ≡ spec.call_after script (replay_of old) moment call text o
+call-after old new script moment call ticket text o planned ready few narrow p made put once reached =
+    let j = begun-joined old script call moment ticket text new.calls.entries new.pool ready few narrow p made put once in
     let free = isn't-full script old p.slot p.next ready p.at in
-    let stood : standings new.pool new.calls.entries ≡ standings old.pool old.calls.entries ++ spec.stand_new (spec.is_full script (replay_of old)) call (leaf_plan leaf) text moment ∷ [] =
-    ap (standings new.pool) put ∙ j.stands ∙ sym (ap (λ v. standings old.pool old.calls.entries ++ spec.stand_new v call (leaf_plan leaf) text moment ∷ []) free) in
-    rw (is_new.planned, reached) (ap (λ (ss : List spec.Standing). record { reached = moment; calls = ss }) stood)
+    let stood : standings new.pool new.calls.entries ≡ standings old.pool old.calls.entries ++ spec.stand_new (spec.is_full script (replay_of old)) call (plan_of ticket) text moment ∷ [] =
+    ap (standings new.pool) put ∙ j.stands ∙ sym (ap (λ v. standings old.pool old.calls.entries ++ spec.stand_new v call (plan_of ticket) text moment ∷ []) free) in
+    rw (planned, reached) (ap (λ (ss : List spec.Standing). record { reached = moment; calls = ss }) stood)
 
 -- What a call line tells where the call took a slot.
-pub call-tells : (old : Replay) (script : Script) (call width first : ℕ) (b : Begun) (o : Option Plan) (p' : Plan) → o ≡ Some p' → IsReady script old → (p : Place old.pool width first b) → spec.call_tells (spec.is_full script (replay_of old)) call o ≡ []
+pub call-tells : (old : Replay) (script : Script) (call width first : ℕ) (b : Begun) (o : Option (Plan MapKind MergeKind)) (p' : Plan MapKind MergeKind) → o ≡ Some p' → IsReady script old → (p : Place old.pool width first b) → spec.call_tells (spec.is_full script (replay_of old)) call o ≡ []
 call-tells old script call width first b o p' planned ready p =
     ap (spec.call_tells (spec.is_full script (replay_of old)) call) planned ∙ ap (λ v. spec.new_tells v call) (isn't-full script old p.slot p.next ready p.at)
 
@@ -184,19 +195,19 @@ call-tells old script call width first b o p' planned ready p =
 full-joined : (old new : Replay) (script : Script) (call : ℕ) → IsReady script old → new.calls.entries ≡ old.calls.entries ++ (call, None) ∷ [] → IsDistinct nat_eq (keys_of new.calls.entries) → Joined old.pool old.pool old.calls.entries call None (full call)
 full-joined old new script call ready put once = full-begins old.pool old.calls.entries call ready.sound (subst (λ es. IsDistinct nat_eq (keys_of es)) put once)
 
-pub full-ready : (old new : Replay) (script : Script) (call : ℕ) → IsReady script old → new.pool ≡ old.pool → new.wires ≡ old.wires → new.marks ≡ old.marks → new.calls.entries ≡ old.calls.entries ++ (call, None) ∷ [] → IsDistinct nat_eq (keys_of new.calls.entries) → IsReady script new
-full-ready old new script call ready pool wires marks put once =
+pub full-ready : (old new : Replay) (script : Script) (call : ℕ) → IsReady script old → lookup (nat_eq call) old.calls.entries ≡ None → new.pool ≡ old.pool → new.wires ≡ old.wires → new.marks ≡ old.marks → new.calls.entries ≡ old.calls.entries ++ (call, None) ∷ [] → IsDistinct nat_eq (keys_of new.calls.entries) → IsReady script new
+full-ready old new script call ready absent_yet pool wires marks put once =
     let j = full-joined old new script call ready put once in
     record {
       sound = rw (pool, put) j.sound;
       pool = ap length pool ∙ ready.pool;
-      wired = rw (pool, wires) ready.wired;
-      channels = rw put (All-snoc (λ entry. IsOn (length script.chans) entry.1) old.calls.entries (call, None) ready.channels tt);
+      wires = rw wires ready.wires;
       marked = rw (pool, marks) ready.marked;
-      marks = rw (put, marks) (first-more call None old.calls.entries old.marks ready.marks);
+      owned = rw (put, marks) (all-owned-more old.calls.entries call None old.marks absent_yet ready.owned);
+      served = rw put (All-snoc (λ entry. IsServedIn script.servers entry.1) old.calls.entries (call, None) ready.served tt);
     }
 
-pub full-after : (old new : Replay) (script : Script) (moment call : ℕ) (text : List ℕ) (p' : Plan) (o : Option Plan) → o ≡ Some p' → IsReady script old → lowest old.pool ≡ None → new.pool ≡ old.pool → new.reached ≡ moment → new.calls.entries ≡ old.calls.entries ++ (call, None) ∷ []
+pub full-after : (old new : Replay) (script : Script) (moment call : ℕ) (text : List ℕ) (p' : Plan MapKind MergeKind) (o : Option (Plan MapKind MergeKind)) → o ≡ Some p' → IsReady script old → lowest old.pool ≡ None → new.pool ≡ old.pool → new.reached ≡ moment → new.calls.entries ≡ old.calls.entries ++ (call, None) ∷ []
     → IsDistinct nat_eq (keys_of new.calls.entries) → replay_of new ≡ spec.call_after script (replay_of old) moment call text o
 full-after old new script moment call text p' o planned ready none pool reached put once =
     let j = full-joined old new script call ready put once in
@@ -204,7 +215,7 @@ full-after old new script moment call text p' o planned ready none pool reached 
     rw (pool, put) (j.stands ∙ sym (ap (λ v. standings old.pool old.calls.entries ++ spec.stand_new v call p' text moment ∷ []) (is-full script old ready none))) in
     rw (planned, reached) (ap (λ (ss : List spec.Standing). record { reached = moment; calls = ss }) stood)
 
-pub full-tells : (old : Replay) (script : Script) (call : ℕ) (o : Option Plan) (p' : Plan) → o ≡ Some p' → IsReady script old → lowest old.pool ≡ None → spec.call_tells (spec.is_full script (replay_of old)) call o ≡ TellsFull call ∷ []
+pub full-tells : (old : Replay) (script : Script) (call : ℕ) (o : Option (Plan MapKind MergeKind)) (p' : Plan MapKind MergeKind) → o ≡ Some p' → IsReady script old → lowest old.pool ≡ None → spec.call_tells (spec.is_full script (replay_of old)) call o ≡ TellsFull call ∷ []
 full-tells old script call o p' planned ready none =
     ap (spec.call_tells (spec.is_full script (replay_of old)) call) planned ∙ ap (λ v. spec.new_tells v call) (is-full script old ready none)
 

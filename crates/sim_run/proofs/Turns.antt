@@ -9,22 +9,22 @@ use Rattle.rpc_model.specs.declared.script.Act.{Act}
 use Rattle.rpc_model.specs.declared.script.Act.TheVariants.{Call, Cancel, Reply, Lose, Tick, Join}
 use Rattle.rpc_model.specs.declared.told.Told.{Told}
 use Rattle.std.specs.declared.option.Option.{Option}
-use Rattle.rpc_model.specs.Limits.{IsMoment, moment_of, called}
-use Rattle.rpc_model.specs.Fits.{IsChan}
-use Rattle.rpc_model.specs.Moments.{IsBy}
-use Rattle.rpc_model.specs.Told.{Replay, after, tells, told_from}
-use Rattle.rpc_model.specs.Early.{settled, AreSparse}
-use Rattle.rpc_model.proofs.MomentsStay.{after-by}
+use Rattle.rpc_model.specs.Limits.{called}
+use Rattle.rpc_model.specs.Fits.{Fits}
+use Rattle.rpc_model.specs.Logs.{after_all}
+use Rattle.rpc_model.specs.Told.{Replay, unbegun, after, tells, told_from}
+use Rattle.rpc_model.specs.Early.{settled}
+use Rattle.rpc_model.proofs.MomentsStay.{moments-early}
 use Rattle.rpc_model.proofs.Early.{tells-same, after-settled}
 use Rattle.sim_run.specs.declared.ticket.Ticket.{Ticket}
 use Rattle.sim_run.specs.Desk.{IsNew, IsFront}
 
 -- The plain machine's replay tells what this one tells, and both take the line alike.
-pub alike-tells : (script : Script) (now machine : Replay) (act : Act) → AreSparse now → AreSparse machine → settled now ≡ settled machine → tells script now act ≡ tells script machine act
-alike-tells script now machine act few few' alike = sym (tells-same script now act few) ∙ ap (λ r. tells script r act) alike ∙ tells-same script machine act few'
+pub alike-tells : (script : Script) (now machine : Replay) (act : Act) → settled now ≡ settled machine → tells script now act ≡ tells script machine act
+alike-tells script now machine act alike = sym (tells-same script now act) ∙ ap (λ r. tells script r act) alike ∙ tells-same script machine act
 
-pub alike-after : (script : Script) (now machine next : Replay) (act : Act) → AreSparse now → AreSparse machine → settled now ≡ settled machine → settled next ≡ settled (after script now act) → settled next ≡ settled (after script machine act)
-alike-after script now machine next act few few' alike is = is ∙ sym (after-settled script now act few) ∙ ap (λ r. settled (after script r act)) alike ∙ after-settled script machine act few'
+pub alike-after : (script : Script) (now machine next : Replay) (act : Act) → settled now ≡ settled machine → settled next ≡ settled (after script now act) → settled next ≡ settled (after script machine act)
+alike-after script now machine next act alike is = is ∙ sym (after-settled script now act) ∙ ap (λ r. settled (after script r act)) alike ∙ after-settled script machine act
 
 -- What was told, with what this line tells, goes on to the same.
 pub turn-tells : (script : Script) (replay next : Replay) (so_far now all : List Told) (acts : List Act) (i : ℕ) (act : Act) → i < length acts → act ≡ get_or acts i act
@@ -35,13 +35,33 @@ turn-tells script replay next so_far now all acts i act h item said n t =
     at_drop_more (told_from script replay) acts i act h ∙ ap (λ (a : Act). told_from script replay (a ∷ drop (i + 1) acts)) (sym item) in
     rw (t, n) (append_assoc so_far _ _ ∙ ap (λ (xs : List Told). so_far ++ xs) (sym more) ∙ said)
 
--- The bound goes up by the longest wait.
-pub turn-early : (script : Script) (replay next : Replay) (acts : List Act) (i : ℕ) (act : Act) → i < length acts → act ≡ get_or acts i act → All (IsChan script.servers) script.chans → All IsMoment acts
-    → IsBy (2 ^ 53 + i * 2 ^ 31) replay → next ≡ after script replay act → IsBy (2 ^ 53 + (i + 1) * 2 ^ 31) next
-turn-early script replay next acts i act h item channels moments by' n =
-    let low : moment_of act < 2 ^ 53 = rw item (All-get_or IsMoment acts i act h moments) in
-    let e : 2 ^ 53 + i * 2 ^ 31 + 2 ^ 31 ≡ 2 ^ 53 + (i + 1) * 2 ^ 31 = omega arith in
-    rw n (subst (λ (b : ℕ). IsBy b (after script replay act)) e (after-by (2 ^ 53 + i * 2 ^ 31) script replay act channels (omega arith) by'))
+-- Both reach the same moment.
+pub alike-reaches : (script : Script) (now machine : Replay) (act : Act) → settled now ≡ settled machine → (after script now act).reached ≡ (after script machine act).reached
+alike-reaches script now machine act alike =
+    ap (λ (r : Replay). r.reached) (sym (after-settled script now act) ∙ ap (λ r. settled (after script r act)) alike ∙ after-settled script machine act)
+
+after-more : (script : Script) (replay : Replay) (acts : List Act) (act : Act) → after_all script replay (acts ++ act ∷ []) ≡ after script (after_all script replay acts) act
+after-more script replay [] act = refl
+after-more script replay (a ∷ acts) act = after-more script (after script replay a) acts act
+
+-- the lines before this one led to this replay
+pub record HasLed (script : Script) (acts : List Act) (i : ℕ) (replay : Replay) : Type 0 where
+  pub before : List Act
+  pub all : acts ≡ before ++ drop i acts
+  pub is : replay ≡ after_all script unbegun before
+
+pub turn-led : (script : Script) (acts : List Act) (i : ℕ) (replay : Replay) (act : Act) → i < length acts → act ≡ get_or acts i act → HasLed script acts i replay → HasLed script acts (i + 1) (after script replay act)
+turn-led script acts i replay act less item led =
+    let rest : drop i acts ≡ act ∷ drop (i + 1) acts = at_drop_more (λ xs. xs) acts i act less ∙ ap (λ (a : Act). a ∷ drop (i + 1) acts) (sym item) in
+    record {
+      before = led.before ++ act ∷ [];
+      all = led.all ∙ ap (λ xs. led.before ++ xs) rest ∙ sym (append_assoc led.before (act ∷ []) (drop (i + 1) acts));
+      is = ap (λ r. after script r act) led.is ∙ sym (after-more script unbegun led.before act);
+    }
+
+-- The moment that a line reaches is early.
+pub led-early : (script : Script) (acts : List Act) (i : ℕ) (replay : Replay) → Fits script → acts ≡ script.acts → HasLed script acts i replay → replay.reached < 2 ^ 60
+led-early script acts i replay fits same led = rw led.is (moments-early script led.before (drop i acts) fits (sym same ∙ led.all)).0
 
 called-cons : (act : Act) (acts : List Act) → called (act ∷ acts) ≡ called (act ∷ []) ++ called acts
 called-cons (Call at call chan text) acts = refl

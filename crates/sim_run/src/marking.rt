@@ -2,6 +2,7 @@
 
 ghost use Rattle.std.specs.Prelude.{◌≡◌, ◌^◌, ◌<◌, OnOk};
 ghost use Rattle.sim_run.specs.Marked.{timed, marked};
+ghost use Rattle.timer_core.specs.Marks.{added};
 
 use rpc_base::NoMemory;
 use rpc_model::{EBACKUPREQUEST, ERPCTIMEDOUT, MarkAt};
@@ -13,8 +14,17 @@ pub(crate) fn set_marks(marks: &mut Marks, first: u64, set: &[MarkAt]) -> Result
     ensures { OnOk result (marks.new ≡ marked first set.now marks.old) }
 {
     for mark in set {
-        marks.add(timed(first, *mark))?;
+        add(marks, first, mark)?;
     }
+    Ok(())
+}
+
+/// Adds a mark of a call with this first id.
+fn add(marks: &mut Marks, first: u64, mark: &MarkAt) -> Result<(), NoMemory>
+    requires { first < 2 ^ 63 }
+    ensures { OnOk result (marks.new ≡ added (timed first mark.now) marks.old) }
+{
+    marks.add(timed(first, *mark))?;
     Ok(())
 }
 

@@ -1,6 +1,6 @@
 //! A call that has begun and was not told.
 
-ghost use Rattle.std.specs.Prelude.{◌≡◌, ◌^◌, ◌<◌, is_some, IfOk, OnOk};
+ghost use Rattle.std.specs.Prelude.{◌≡◌, ◌^◌, ◌<◌, ◌≤◌, ◌∷◌, ◌++◌, take, drop, length, is_some, IfOk, OnOk};
 ghost use Rattle.std.specs.Arc.{arc_value};
 ghost use Rattle.rpc_model.specs.Kinds.{script_kinds};
 ghost use Rattle.rpc_model.specs.Machine.{start, step};
@@ -152,21 +152,33 @@ fn set_marks(waiting: &mut Vec<MarkAt>, marks: &[MarkAt]) -> Result<(), NoMemory
     ensures { OnOk result (waiting.new.items ≡ set_all marks.now waiting.old.items) }
 {
     for mark in marks {
-        set_mark(waiting, *mark)?;
+        set_mark(waiting, mark)?;
     }
     Ok(())
 }
 
-/// Sets a mark behind those that don't come after it.
-fn set_mark(waiting: &mut Vec<MarkAt>, mark: MarkAt) -> Result<(), NoMemory>
-    ensures { OnOk result (waiting.new.items ≡ set_mark mark waiting.old.items) }
+/// Sets a mark behind those that it doesn't come before.
+fn set_mark(waiting: &mut Vec<MarkAt>, mark: &MarkAt) -> Result<(), NoMemory>
+    ensures { OnOk result (waiting.new.items ≡ set_mark mark.now waiting.old.items) }
 {
-    let place = waiting.iter().position(|other| is_before(mark, *other));
-    match place {
-        Some(at) => waiting.insert(at, mark)?,
-        None => waiting.push(mark)?,
-    }
+    let at = place_of(waiting.as_slice(), *mark);
+    waiting.insert(at, *mark)?;
     Ok(())
+}
+
+/// How many marks of a list stand before a mark that is set.
+fn place_of(waiting: &[MarkAt], mark: MarkAt) -> usize
+    ensures place { set_mark mark waiting.now ≡ take result waiting.now ++ mark ∷ drop result waiting.now }
+    ensures within { result ≤ length waiting.now }
+{
+    let mut at = 0;
+    for other in waiting {
+        if is_before(mark, *other) {
+            return at;
+        }
+        at += 1;
+    }
+    at
 }
 
 /// Whether a mark comes before another one: by its moment, and at one moment by its node, where the deadline comes first.

@@ -30,6 +30,8 @@ pub(crate) fn planned(
     match plan(alloc, script.chans.list(), chan, call) {
         Ok(plan) => Ok(Arc::new(alloc, plan)?),
         Err(PlanFault::Memory) => Err(NoMemory),
-        Err(_) => unreachable!(),
+        Err(PlanFault::TooDeep(_)) => unreachable!(),
+        Err(PlanFault::MissingPart(_)) => unreachable!(),
+        Err(PlanFault::TooWide(_)) => unreachable!(),
     }
 }

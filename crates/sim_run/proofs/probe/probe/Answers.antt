@@ -1,5 +1,4 @@
-use Rattle.sim_run.proofs.Fewer.{total-change}
-use Rattle.sim_run.proofs.Reaching.{reaching-turn}
+use Rattle.sim_run.proofs.Chans.{plan-served}
 use Rattle.std.proofs.Common.{refl}
 use Rattle.sim_run.proofs.probe.probe.Goals as goal
 

@@ -1,21 +1,25 @@
 -- A join finds the call, takes its marks, and lets its range go or ends it.
-use Rattle.std.proofs.Common.{◌≡◌, sym, ap, ◌∙◌}
+use Rattle.std.proofs.Common.{◌≡◌, ◌-◌, sym, ap, arith, ◌∙◌}
 use Rattle.id_pool.specs.Ranges.{look}
 use Rattle.id_pool.specs.Answers.{collect_says}
+use Rattle.sim_run.specs.Acting.{joined_by}
 use Rattle.sim_run.specs.Slots.{finished}
 use Rattle.sim_run.proofs.Changes.{visit-changed}
-use Rattle.sim_run.proofs.Joins.{finds, finds-look, finish-says, ending-own, join-over, join-open, says-nothing, join-nothing, says-open, says-over, locked-may, locked-issue, issue-none, joins, joins-open, joins-over, not-true, not-false}
+use Rattle.sim_run.proofs.Joins.{finds, finds-look, finish-says, ending-own, join-over, join-open, says-nothing, join-nothing, says-open, says-over, locked-low, locked-acts, locked-early, acts-none, joins, joins-open, joins-over, not-true, not-false}
 use Rattle.sim_run.proofs.slots.join.Goals as goal
 
 pub returns-in_default : goal.returns-in_default
 returns-in_default c = record {
   says = sym (says-nothing c.args.reached (look c.args.first c.args.pool.now) (λ k e. c.in_default.not-Yes k (c.lock.ensures.answer ∙ e)));
   after = c.lock.ensures.after ∙ join-nothing c.args.reached c.args.first c.args.pool.now (λ k e. c.in_default.not-Yes k (c.lock.ensures.answer ∙ e));
-  wires = issue-none c.args.first (finished c.args.reached) (look c.args.first c.args.pool.now) c.args.wires.now.items (λ k e. c.in_default.not-Yes k (c.lock.ensures.answer ∙ e));
+  acts = acts-none c.args.first (joined_by c.args.reached) (look c.args.first c.args.pool.now) c.args.wires.now.items c.args.marks.now (λ k e. c.in_default.not-Yes k (c.lock.ensures.answer ∙ e));
 }
 
-pub finish-requires : goal.finish-requires
-finish-requires c = rw c.from.ensures (locked-may c.args.first c.in-Yes.offset c.args.pool.now c.lock.new.self c.args.wires.now.items c.requires.issues (sym c.in-Yes.ensures.answer) c.lock.ensures.after)
+pub finish-requires-clause-low : goal.finish-requires-clause-low
+finish-requires-clause-low c = let low = locked-low c.args.first c.in-Yes.offset c.args.pool.now c.requires.few (sym c.in-Yes.ensures.answer) in omega (arith, c.saturating_sub-own.ensures, low)
+
+pub finish-requires-clause-early : goal.finish-requires-clause-early
+finish-requires-clause-early c = locked-early c.args.reached c.args.first c.in-Yes.offset c.args.pool.now c.lock.new.self c.requires.early (sym c.in-Yes.ensures.answer) c.lock.ensures.after
 
 pub returns-in_default-done-clause-says : goal.returns-in_default-done-clause-says
 returns-in_default-done-clause-says c =
@@ -67,14 +71,14 @@ returns-clause-after c =
     rw (c.collect.ensures.after, c.destroy.ensures.after, c.in_ok-done.ensures.after, c.lock.ensures.after)
     (join-over c.args.reached c.args.first c.in-Yes.offset c.args.pool.now j.range end.0 j.finds first end.1)
 
-pub returns-in_default-done-clause-wires : goal.returns-in_default-done-clause-wires
-returns-in_default-done-clause-wires c =
-    (rw c.from.ensures at c.in_ok-done.ensures.wires) ∙ locked-issue (finished c.args.reached) c.args.first c.in-Yes.offset c.args.pool.now c.lock.new.self c.args.wires.now.items (sym c.in-Yes.ensures.answer) c.lock.ensures.after
+pub returns-in_default-done-clause-acts : goal.returns-in_default-done-clause-acts
+returns-in_default-done-clause-acts c =
+    (rw (c.saturating_sub-own.ensures, c.from.ensures) at c.in_ok-done.ensures.acts) ∙ locked-acts (joined_by c.args.reached) c.args.first c.in-Yes.offset c.args.pool.now c.lock.new.self c.args.wires.now.items c.args.marks.now (sym c.in-Yes.ensures.answer) c.lock.ensures.after
 
-pub returns-then-not-finished-clause-wires : goal.returns-then-not-finished-clause-wires
-returns-then-not-finished-clause-wires c =
-    (rw c.from.ensures at c.in_ok-done.ensures.wires) ∙ locked-issue (finished c.args.reached) c.args.first c.in-Yes.offset c.args.pool.now c.lock.new.self c.args.wires.now.items (sym c.in-Yes.ensures.answer) c.lock.ensures.after
+pub returns-then-not-finished-clause-acts : goal.returns-then-not-finished-clause-acts
+returns-then-not-finished-clause-acts c =
+    (rw (c.saturating_sub-own.ensures, c.from.ensures) at c.in_ok-done.ensures.acts) ∙ locked-acts (joined_by c.args.reached) c.args.first c.in-Yes.offset c.args.pool.now c.lock.new.self c.args.wires.now.items c.args.marks.now (sym c.in-Yes.ensures.answer) c.lock.ensures.after
 
-pub returns-clause-wires : goal.returns-clause-wires
-returns-clause-wires c =
-    (rw c.from.ensures at c.in_ok-done.ensures.wires) ∙ locked-issue (finished c.args.reached) c.args.first c.in-Yes.offset c.args.pool.now c.lock.new.self c.args.wires.now.items (sym c.in-Yes.ensures.answer) c.lock.ensures.after
+pub returns-clause-acts : goal.returns-clause-acts
+returns-clause-acts c =
+    (rw (c.saturating_sub-own.ensures, c.from.ensures) at c.in_ok-done.ensures.acts) ∙ locked-acts (joined_by c.args.reached) c.args.first c.in-Yes.offset c.args.pool.now c.lock.new.self c.args.wires.now.items c.args.marks.now (sym c.in-Yes.ensures.answer) c.lock.ensures.after
