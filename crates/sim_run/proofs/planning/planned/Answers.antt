@@ -1,6 +1,8 @@
 -- An accepted script's channels have plans for its calls, whose leaves have known servers.
 use Rattle.std.proofs.Common.{◌≡◌, Some, None, ap, sym, subst, ◌∙◌}
 use Rattle.rpc_model.specs.Faults.{missing_part}
+use Rattle.chan_tree.specs.Asked.{IsRefused}
+use Rattle.chan_tree.specs.declared.planning.PlanFault.TheVariants.{MissingPart}
 use Rattle.rpc_model.specs.Plan.{plan}
 use Rattle.rpc_model.specs.Served.{AreServed}
 use Rattle.sim_run.proofs.Chans.{chans-sound, whole, plan-served}
@@ -12,7 +14,8 @@ plan-requires-clause-sound c = rw c.list.ensures (chans-sound c.args.script.now.
 pub unreachable-requires-in-Err-MissingPart : goal.unreachable-requires-in-Err-MissingPart
 unreachable-requires-in-Err-MissingPart c =
     let none = whole c.args.script.now.servers c.args.script.now.chans c.args.chan c.args.call c.requires.fits.channels in
-    let some = rw c.list.ensures at c.in-Err-MissingPart.ensures.refused.1 in
+    let r : IsRefused c.list.result.now c.args.chan c.args.call (MissingPart c.in-Err-MissingPart.field-0-0) = rw c.in-Err-MissingPart.field-0-is at c.in-Err-MissingPart.ensures.refused in
+    let some = rw c.list.ensures at r.1 in
     let both = sym none ∙ some in
     cc
 
