@@ -1,5 +1,5 @@
 -- A join line of a replay.
-use Rattle.std.proofs.Common.{◌≡◌, ◌≢◌, ℕ, ◌≤◌, nat_eq, List, [], ◌∷◌, length, find, None, Some, ap, sym, refl, ◌∙◌}
+use Rattle.std.proofs.Common.{◌≡◌, ◌≢◌, ℕ, ◌^◌, ◌<◌, ◌≤◌, subst, nat_eq, List, [], ◌∷◌, length, find, Option, None, Some, ap, sym, refl, ◌∙◌}
 use Rattle.std.specs.Map.{lookup}
 use Rattle.rpc_model.specs.declared.script.Script.{Script}
 use Rattle.rpc_model.specs.declared.told.Told.{Told}
@@ -13,8 +13,11 @@ use Rattle.id_pool.specs.Ranges.{Slot, look, changed}
 use Rattle.sim_run.specs.Link.{Link}
 use Rattle.timer_core.specs.declared.mark.Mark.{Mark}
 use Rattle.sim_run.specs.Acting.{joined_by}
-use Rattle.sim_run.specs.Slots.{join, acts_by}
-use Rattle.sim_run.specs.Desk.{standings, IsReady, replay_of}
+use Rattle.std.specs.Option.{option_map}
+use Rattle.id_pool.specs.Answers.{value_says}
+use Rattle.sim_run.specs.Slots.{join, acts_by, IsJoinedEarly}
+use Rattle.sim_run.proofs.Entries.{find-standing}
+use Rattle.sim_run.specs.Desk.{stand, standing_at, standings, IsReady, replay_of}
 use Rattle.sim_run.proofs.Brings.{Brings}
 use Rattle.sim_run.proofs.JoinMarked.{join-marked}
 use Rattle.sim_run.proofs.Steps.{Follows}
@@ -71,3 +74,15 @@ join-brings script old after wires marks call ticket ready few found follows is 
     let set : marks ≡ (acts_by ticket.first (joined_by old.reached) (look ticket.first old.pool) old.wires.items old.marks).1 = ap (λ (p : List Link × List Mark). p.1) out in
     let left = join-marked old.reached old.pool old.wires.items old.marks old.calls.entries call ticket ready.sound few (sym found) ready.marked ready.owned in
     rw (is, set) (record { follows = follows; marked = left.marked; owned = left.owned })
+
+-- A join of a call that has a ticket reaches what the plain machine's does.
+pub join-early : (script : Script) (old : Replay) (call : ℕ) (ticket : Ticket) → IsReady script old → Some (Some ticket) ≡ lookup (nat_eq call) old.calls.entries
+    → (spec.call_join (replay_of old) call).reached < 2 ^ 60 → IsJoinedEarly old.reached (value_says (look ticket.first old.pool))
+join-early script old call ticket ready found early = by (value_says (look ticket.first old.pool)) refl
+  where
+    by : (o : Option Begun) → value_says (look ticket.first old.pool) ≡ o → IsJoinedEarly old.reached o
+    by None e = tt
+    by (Some b) e =
+        let finds : find (spec.is_call call) (standings old.pool old.calls.entries) ≡ Some (spec.begun b) =
+        find-standing old.pool call old.calls.entries ready.sound.known ∙ ap (option_map (standing_at old.pool call)) (sym found) ∙ ap (λ o. Some (stand call o)) e in
+        subst (λ o. spec.joined_moment old.reached o < 2 ^ 60) finds early

@@ -325,7 +325,7 @@ impl Replay {
     }
 
     /// One more line.
-    #[tactic(auto, unfolding(sim_run::specs::PlainTold::after, sim_run::specs::PlainTold::tells))]
+    #[tactic(auto, unfolding(rpc_model::specs::Told::after, rpc_model::specs::Told::tells))]
     pub(crate) fn step(
         &mut self,
         alloc: Global,

@@ -1,0 +1,65 @@
+-- The reply comes to the attempt that its id finds.
+use Rattle.std.proofs.Common.{◌∙◌, sym, refl, ap, length, ℕ, List, Some, arith}
+use Rattle.rpc_model.specs.declared.event.Event.{Event}
+use Rattle.rpc_model.specs.declared.event.Event.TheVariants as event
+use Rattle.rpc_model.specs.Told as spec
+use Rattle.timer_core.specs.declared.mark.Mark.{Mark}
+use Rattle.sim_run.specs.Link.{Link}
+use Rattle.sim_run.specs.Desk.{IsServedIn}
+use Rattle.sim_run.specs.Wires.{received}
+use Rattle.sim_run.specs.declared.state.Replay.{Replay}
+use Rattle.sim_run.proofs.Brings.{Brings}
+use Rattle.sim_run.proofs.Fewer.{on_wire-length}
+use Rattle.sim_run.proofs.Ready.{ready-brings, event-replay, no-event, some_ticket}
+use Rattle.sim_run.proofs.Replies.{entry-of, ticket-low, attempt-brings, brought-wires}
+use Rattle.sim_run.proofs.state.Replay.reply.Goals as goal
+
+pub returns-in_default-clause-after : goal.returns-in_default-clause-after
+returns-in_default-clause-after c =
+    let said = event.Reply c.args.node c.args.attempt c.args.code c.args.text.now in
+    event-replay c.args.self.now c.args.self.now c.args.call said (no-event c.args.script.now c.args.self.now c.args.call said c.args.self.now.reached c.requires.ready c.in_default.ensures) refl refl
+
+pub aim-requires-clause-low : goal.aim-requires-clause-low
+aim-requires-clause-low c =
+    let low = ticket-low c.args.script.now c.args.self.now c.args.call c.in-Some.ticket.now c.requires.ready c.requires.few c.requires.fits.few_slots c.in-Some.ensures in
+    omega (arith, low.first)
+
+pub aim-requires-clause-served : goal.aim-requires-clause-served
+aim-requires-clause-served c =
+    entry-of (IsServedIn c.args.script.now.servers) c.args.call (Some c.in-Some.ticket.now) c.args.self.now.calls.entries c.requires.ready.served (some_ticket _ c.in-Some.ticket.now (sym c.in-Some.ensures))
+
+pub receive-requires-clause-server : goal.receive-requires-clause-server
+receive-requires-clause-server c =
+    omega (arith, c.in-Some-aim.ensures.bound, c.requires.ready.wires)
+
+pub receive-requires-clause-id : goal.receive-requires-clause-id
+receive-requires-clause-id c =
+    let low = ticket-low c.args.script.now c.args.self.now c.args.call c.in-Some.ticket.now c.requires.ready c.requires.few c.requires.fits.few_slots c.in-Some.ensures in
+    omega (arith, low.first, c.in-Some-aim.ensures.near)
+
+pub deliver-requires-clause-few : goal.deliver-requires-clause-few
+deliver-requires-clause-few c =
+    omega (arith, c.requires.ready.pool, c.requires.fits.few_slots)
+
+pub returns-clause-ready : goal.returns-clause-ready
+returns-clause-ready c =
+    let what : ℕ → ℕ → Event = λ n k. event.Reply n k c.args.code c.args.text.now in
+    let after = rw c.in_ok-reply.ensures.reply at c.in_ok-deliver.ensures.after in
+    let acts = rw c.in_ok-reply.ensures.reply at c.in_ok-deliver.ensures.acts in
+    let marks = ap (λ (p : List Link × List Mark). p.1) acts in
+    let b = attempt-brings c.args.script.now c.args.self.now c.receive.new.wires.items c.args.call c.in-Some.ticket.now c.args.node c.args.attempt c.in-Some-aim.aim.id what c.requires.ready c.requires.few c.requires.settled c.in-Some.ensures c.in-Some-aim.ensures.id in
+    let here : Brings c.args.self.now.pool c.deliver.new.pool c.deliver.new.marks c.args.self.now.calls.entries c.args.call (spec.event_after (what c.args.node c.args.attempt) c.args.self.now.reached) = rw (after, marks) b in
+    let new : Replay = record { reached = c.args.self.now.reached; calls = c.args.self.now.calls; pool = c.deliver.new.pool; wires = c.deliver.new.wires; marks = c.deliver.new.marks } in
+    let wires = ap (λ (p : List Link × List Mark). length p.0) acts ∙ brought-wires what c.args.self.now.reached c.in-Some-aim.aim.id c.args.self.now.pool c.receive.new.wires.items c.args.self.now.marks ∙ ap length c.in_ok-reply.ensures.wire ∙ on_wire-length c.in-Some-aim.aim.server (received c.in-Some-aim.aim.id) c.args.self.now.wires.items in
+    ready-brings c.args.script.now c.args.self.now new c.args.call (spec.event_after (what c.args.node c.args.attempt) c.args.self.now.reached) c.requires.ready here refl wires
+
+pub returns-clause-after : goal.returns-clause-after
+returns-clause-after c =
+    let what : ℕ → ℕ → Event = λ n k. event.Reply n k c.args.code c.args.text.now in
+    let after = rw c.in_ok-reply.ensures.reply at c.in_ok-deliver.ensures.after in
+    let acts = rw c.in_ok-reply.ensures.reply at c.in_ok-deliver.ensures.acts in
+    let marks = ap (λ (p : List Link × List Mark). p.1) acts in
+    let b = attempt-brings c.args.script.now c.args.self.now c.receive.new.wires.items c.args.call c.in-Some.ticket.now c.args.node c.args.attempt c.in-Some-aim.aim.id what c.requires.ready c.requires.few c.requires.settled c.in-Some.ensures c.in-Some-aim.ensures.id in
+    let here : Brings c.args.self.now.pool c.deliver.new.pool c.deliver.new.marks c.args.self.now.calls.entries c.args.call (spec.event_after (what c.args.node c.args.attempt) c.args.self.now.reached) = rw (after, marks) b in
+    let new : Replay = record { reached = c.args.self.now.reached; calls = c.args.self.now.calls; pool = c.deliver.new.pool; wires = c.deliver.new.wires; marks = c.deliver.new.marks } in
+    event-replay c.args.self.now new c.args.call (what c.args.node c.args.attempt) here.follows refl refl
