@@ -1,6 +1,6 @@
 ghost use Rattle.std.specs.Prelude.{◌≡◌, ◌++◌, OnOk, OnErr};
 ghost use Rattle.rpc_model.specs.Fits.{Fits};
-ghost use Rattle.sim_run.specs.PlainTold as spec;
+ghost use Rattle.rpc_model.specs.Told as spec;
 ghost use Rattle.sim_run.specs.Desk.{IsFront};
 
 use crate::state::Replay;
@@ -10,7 +10,7 @@ use std::alloc::Global;
 
 /// Replays an accepted script, and puts what its joins tell behind what was told before. After want of memory a front of
 /// it was put there.
-#[tactic(auto, unfolding(sim_run::specs::PlainTold::told))]
+#[tactic(auto, unfolding(rpc_model::specs::Told::told))]
 pub fn replay(alloc: Global, script: &Script, told: &mut Vec<Told>) -> Result<(), NoMemory>
     requires { Fits script.now }
     ensures told { OnOk result (told.new.items ≡ told.old.items ++ spec.told script.now) }
