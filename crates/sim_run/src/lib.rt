@@ -6,7 +6,6 @@ mod acting;
 mod marking;
 mod open_call;
 mod planning;
-mod probe;
 mod replaying;
 mod slots;
 mod state;
