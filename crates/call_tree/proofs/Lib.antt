@@ -5,3 +5,4 @@ mod Quiet
 mod Attempts
 mod Bounds
 mod Folds
+mod Adding

@@ -9,3 +9,4 @@ pub mod Growing
 pub mod Weights
 pub mod Bounds
 pub mod Folding
+pub mod Starting

@@ -43,11 +43,11 @@ module _ {M G : Type 0} where
     pub open_ : IsOpen p.counts p.end
     pub goods : p.counts.goods ≡ goods (spec.ends_of (states_of p.kids.items))
     pub bads : p.counts.bads ≡ bads (spec.ends_of (states_of p.kids.items))
-    pub places : p.firsts ≡ firsts 1 (states_of p.kids.items)
+    pub places : p.firsts.items ≡ firsts 1 (states_of p.kids.items)
 
   -- the places are those where the tries begin
   pub record IsSelNode (p : SelNode M G) : Type 0 where
-    pub places : p.firsts ≡ firsts 1 (states_of p.kids.items)
+    pub places : p.firsts.items ≡ firsts 1 (states_of p.kids.items)
 
   abbrev pub IsSound : Node M G → Type 0
   IsSound (node.Waits plan) = Unit {0}

@@ -10,6 +10,7 @@ mod happening;
 mod leaf_node;
 mod nodes;
 mod outbox;
+mod par_node;
 mod starting;
 mod stepping;
 mod taking;
