@@ -1,9 +1,9 @@
 -- One more sub behind those of a parallel node.
-use Rattle.std.proofs.Common.{◌≡◌, ℕ, zero, suc, ◌+◌, ◌<◌, List, [], ◌∷◌, ◌++◌, length, get_or, set, Option, Some, None, is_some, true, false, arith, refl, ap, sym, ◌∙◌, subst}
+use Rattle.std.proofs.Common.{◌≡◌, ℕ, suc, ◌+◌, List, [], ◌∷◌, ◌++◌, length, get_or, set, Option, Some, None, arith, refl, ap, sym, ◌∙◌, subst}
 use Rattle.rpc_model.specs.declared.event.End.{End}
 use Rattle.rpc_model.specs.declared.event.End.TheVariants.{Good, Bad}
 use Rattle.tree_model.specs.Kinds.{Kinds}
-use Rattle.tree_model.specs.Parallel.{Limits, count_good, count_bad, goods, bads, judged}
+use Rattle.tree_model.specs.Parallel.{count_good, count_bad, goods, bads, judged}
 use Rattle.tree_model.specs.State.{State, end_of, ends_of, size, size_of}
 use Rattle.tree_model.specs.Machine.{where_ended}
 use Rattle.call_tree.specs.declared.counts.Counts.{Counts}

@@ -6,3 +6,5 @@ mod Attempts
 mod Bounds
 mod Folds
 mod Adding
+mod Subs
+mod Alike

@@ -1,5 +1,5 @@
 -- How the subs of a parallel node start, one after the other: this project's own choice.
-use Rattle.std.specs.Prelude.{ℕ, ◌+◌, Bool, true, false, List, [], ◌∷◌, ◌++◌, Option, None, Some}
+use Rattle.std.specs.Prelude.{◌≡◌, ℕ, Bool, true, false, List, [], ◌∷◌, ◌++◌, Option, None, Some}
 use Rattle.rpc_model.specs.declared.event.End.{End}
 use Rattle.tree_model.specs.declared.mapper.Mapped.{Mapped}
 use Rattle.tree_model.specs.declared.mapper.Mapped.TheVariants as answer
@@ -8,6 +8,11 @@ use Rattle.tree_model.specs.Plan.{Plan, Plans}
 use Rattle.tree_model.specs.Parallel.{Limits, judged}
 use Rattle.tree_model.specs.State.{State, waits, States, state_then, Run, Below, waiting_states, quiet, still}
 use Rattle.tree_model.specs.Machine.{where_ended, start_at, start_subs}
+use Rattle.rpc_model.specs.Machine.{Send, Mark}
+use Rattle.call_tree.specs.declared.nodes.ParNode.{ParNode}
+use Rattle.call_tree.specs.declared.outbox.Outbox.{Outbox}
+use Rattle.call_tree.specs.Growing.{IsGrown}
+use Rattle.call_tree.specs.Shown.{states_of}
 
 -- the request that the first answer of the mappers asks
 abbrev pub first_ask : List Mapped → Option (List ℕ)
@@ -25,6 +30,16 @@ module _ {M G : Type 0} where
   abbrev pub append_states : List (State M G) → States M G → States M G
   append_states [] states = states
   append_states (s ∷ ss) states = state_then s (append_states ss states)
+
+  -- these subs, sends and marks, and then those that are below
+  abbrev pub joined : List (State M G) → List Send → List Mark → Below M G → Below M G
+  joined kids sends marks below = record { states = append_states kids below.states; sends = sends ++ below.sends; marks = marks ++ below.marks; end = below.end }
+
+  -- the node has the subs and the end of this run, and this went out on it
+  pub record IsStarted (par : ParNode M G) (old now : Outbox) (below : Below M G) : Type 0 where
+    pub subs_are : states_of par.kids.items ≡ below.states
+    pub end_is : par.end ≡ below.end
+    pub grown : IsGrown old now below.sends below.marks
 
 module _ {M G : Type 0} (kinds : Kinds M G) where
   -- a sub starts, where it is asked and the node has no end

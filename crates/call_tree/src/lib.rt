@@ -1,6 +1,7 @@
 //! A whole call: its nodes, its log, and what each event makes it do. It is the plain machine of its log.
 #![tactic(auto)]
 
+mod asking;
 mod call;
 mod counts;
 mod deciding;

@@ -1,4 +1,4 @@
-use Rattle.std.proofs.Common.{rules, arith, ap, sym, ◌∙◌, slice_get}
+use Rattle.std.proofs.Common.{arith, ap, sym, ◌∙◌, slice_get}
 use Rattle.std.specs.Option.{option_map}
 use Rattle.call_tree.proofs.Folds.{fold-step, fold-end, fold-past, less-next}
 use Rattle.call_tree.proofs.folding.fold.Goals.{in-Taken, in-Fail+else-failed-limit}

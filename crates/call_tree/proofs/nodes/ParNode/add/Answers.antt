@@ -1,8 +1,7 @@
-use Rattle.std.proofs.Common.{rules, arith, ap, sym, ◌∙◌, get_or, ◌++◌, ◌∷◌, [], length, refl}
+use Rattle.std.proofs.Common.{ap, sym, ◌∙◌, refl}
 use Rattle.std.specs.Option.{option_map}
 use Rattle.tree_model.specs.State.{end_of}
 use Rattle.call_tree.specs.Running.{kinds_of}
-use Rattle.call_tree.specs.Counts.{limits_of}
 use Rattle.call_tree.proofs.Leaves.{none-end}
 use Rattle.call_tree.proofs.Adding.{added-open, added-ended, counts-now, end-now, pushed-is}
 use Rattle.call_tree.proofs.nodes.ParNode.add.Goals as goal
