@@ -8,3 +8,6 @@ mod Folds
 mod Adding
 mod Subs
 mod Alike
+mod Kids
+mod Counting
+mod Parallels

@@ -18,6 +18,11 @@ abbrev pub with_end : Counts → End → Counts
 with_end c (end.Good text) = record c { goods = c.goods + 1 }
 with_end c (end.Bad code) = record c { bads = c.bads + 1 }
 
+-- the counts after this end of a sub, or none
+abbrev pub with_some : Counts → Option End → Counts
+with_some c None = c
+with_some c (Some end) = with_end c end
+
 -- the counts are those of the ends
 pub record AreCounts (c : Counts) (ends : List (Option End)) : Type 0 where
   pub goods_are : c.goods ≡ goods ends

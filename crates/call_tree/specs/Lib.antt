@@ -10,3 +10,5 @@ pub mod Weights
 pub mod Bounds
 pub mod Folding
 pub mod Starting
+pub mod Brought
+pub mod Judging

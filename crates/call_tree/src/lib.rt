@@ -2,6 +2,7 @@
 #![tactic(auto)]
 
 mod asking;
+mod below;
 mod call;
 mod counts;
 mod deciding;

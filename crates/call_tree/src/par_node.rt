@@ -1,9 +1,12 @@
 //! The parallel nodes of a call.
 
-ghost use Rattle.std.specs.Prelude.{◌≡◌, ◌+◌, ◌∷◌, ◌++◌, ◌^◌, ◌<◌, [], length, set, is_some, true, None, Some, IfOk, OnOk};
+ghost use Rattle.std.specs.Prelude.{◌≡◌, ◌+◌, ◌∷◌, ◌++◌, ◌^◌, ◌<◌, ◌≤◌, [], length, get_or, set, is_some, true, None, Some, IfOk, OnOk};
+ghost use Rattle.std.specs.Option.{option_map};
 ghost use Rattle.tree_model.specs.State as spec;
 ghost use Rattle.tree_model.specs.Parallel.{judged, par_deadline};
 ghost use Rattle.call_tree.specs.Counts.{limits_of, IsOpen, AreCounts};
+ghost use Rattle.call_tree.specs.Judging.{brought_up};
+ghost use Rattle.call_tree.specs.Places.{IsAt};
 ghost use Rattle.call_tree.specs.Running.{kinds_of};
 ghost use Rattle.call_tree.specs.Shown.{states_of, IsParNode};
 ghost use Rattle.call_tree.specs.Starting.{end_with};
@@ -11,6 +14,7 @@ ghost use Rattle.call_tree.specs.Starting.{end_with};
 use crate::counts::Counts;
 use crate::folding::fold;
 use crate::nodes::{ParNode, Tree};
+use chan_tree::last_up_to;
 use rpc_base::NoMemory;
 use rpc_model::{ERPCTIMEDOUT, ETOOMANYFAILS, End};
 use std::alloc::Global;
@@ -103,5 +107,45 @@ impl<M: Mapper + Drop, G: Merger + Drop> ParNode<M, G> {
         self.counts = counts;
         self.end = over;
         Ok(())
+    }
+}
+
+impl<M, G> ParNode<M, G> {
+    /// The place of the sub that a number is of, or of a node below it, and the sub's own number.
+    pub(crate) fn sub_at(&self, node: u32, to: u32) -> (usize, u32)
+        requires sound { IsParNode self.now }
+        requires low { node < to }
+        requires high { to < node + (1 + spec.size_of (states_of self.now.kids.items)) }
+        ensures at { IsAt node to (states_of self.now.kids.items) result.0 result.1 }
+        ensures there { result.0 < length self.now.kids.items }
+    {
+        let firsts = self.firsts.as_slice();
+        let at = last_up_to(firsts, to - node);
+        (at, node + firsts[at])
+    }
+}
+
+impl<M: Mapper, G: Merger> ParNode<M, G> {
+    /// The end that this end of the sub of this index, or none, brings a node without one.
+    pub(crate) fn over(
+        &self,
+        alloc: Global,
+        at: usize,
+        end: Option<&End>,
+    ) -> Result<Option<End>, NoMemory>
+        requires few { length self.now.kids.items < 2 ^ 31 }
+        requires sound { IsParNode self.now }
+        requires open { self.now.end ≡ None }
+        requires there { at < length self.now.kids.items }
+        requires fresh { is_some (option_map (λ e. e.now) end) ≡ true → get_or (spec.ends_of (states_of self.now.kids.items)) at None ≡ None }
+        ensures { IfOk result (λ o. o ≡ brought_up (kinds_of M.answer G.answer) (limits_of self.now.counts) self.now.merges (spec.ends_of (states_of self.now.kids.items)) at (option_map (λ e. e.now) end.entry)) }
+    {
+        let Some(end) = end else {
+            return Ok(None);
+        };
+        let counts = self.counts.with(end);
+        let kids = self.kids.as_slice();
+        let over = judge(alloc, counts, self.merges.list(), kids, at, end)?;
+        Ok(over)
     }
 }
