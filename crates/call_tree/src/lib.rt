@@ -20,3 +20,6 @@ mod taking;
 pub use call::Call;
 pub use effects::Effects;
 pub use rpc_model::{MarkAt, Send};
+
+#[cfg(test)]
+mod tests;
