@@ -33,7 +33,7 @@ on-answer next so_far fails limit (answer.Merged text) = refl
 on-answer next so_far fails limit answer.Fail = refl
 on-answer next so_far fails limit answer.FailAll = refl
 
-other-number : (a b : ℕ) → (a ≡ b → ⊥) → (a == b) ≡ false
+pub other-number : (a b : ℕ) → (a ≡ b → ⊥) → (a == b) ≡ false
 other-number a b differ = by (a == b) refl
   where
     by : (v : Bool) → (a == b) ≡ v → (a == b) ≡ false

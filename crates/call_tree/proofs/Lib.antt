@@ -5,3 +5,9 @@ mod Quiet
 mod Attempts
 mod Bounds
 mod Folds
+mod Adding
+mod Subs
+mod Alike
+mod Kids
+mod Counting
+mod Parallels

@@ -1,8 +1,8 @@
 -- The counts of a parallel node: this project's own choice.
-use Rattle.std.specs.Prelude.{◌+◌, ◌<◌, Option, None, Some}
+use Rattle.std.specs.Prelude.{◌≡◌, ◌+◌, ◌<◌, List, Option, None, Some}
 use Rattle.rpc_model.specs.declared.event.End.{End}
 use Rattle.rpc_model.specs.declared.event.End.TheVariants as end
-use Rattle.rpc_model.specs.Parallel.{Limits}
+use Rattle.rpc_model.specs.Parallel.{Limits, goods, bads}
 use Rattle.call_tree.specs.declared.counts.Counts.{Counts}
 
 abbrev pub limits_of : Counts → Limits
@@ -17,3 +17,13 @@ IsOpen c (Some end) = Unit {0}
 abbrev pub with_end : Counts → End → Counts
 with_end c (end.Good text) = record c { goods = c.goods + 1 }
 with_end c (end.Bad code) = record c { bads = c.bads + 1 }
+
+-- the counts after this end of a sub, or none
+abbrev pub with_some : Counts → Option End → Counts
+with_some c None = c
+with_some c (Some end) = with_end c end
+
+-- the counts are those of the ends
+pub record AreCounts (c : Counts) (ends : List (Option End)) : Type 0 where
+  pub goods_are : c.goods ≡ goods ends
+  pub bads_are : c.bads ≡ bads ends

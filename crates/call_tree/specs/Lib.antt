@@ -9,3 +9,6 @@ pub mod Growing
 pub mod Weights
 pub mod Bounds
 pub mod Folding
+pub mod Starting
+pub mod Brought
+pub mod Judging

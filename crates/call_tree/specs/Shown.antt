@@ -43,21 +43,15 @@ module _ {M G : Type 0} where
     pub open_ : IsOpen p.counts p.end
     pub goods : p.counts.goods ≡ goods (spec.ends_of (states_of p.kids.items))
     pub bads : p.counts.bads ≡ bads (spec.ends_of (states_of p.kids.items))
-    pub places : p.firsts ≡ firsts 1 (states_of p.kids.items)
+    pub places : p.firsts.items ≡ firsts 1 (states_of p.kids.items)
 
-  -- the places are those where the tries begin
+  -- the places are those where the tries begin; no selective node starts so far
   pub record IsSelNode (p : SelNode M G) : Type 0 where
-    pub places : p.firsts ≡ firsts 1 (states_of p.kids.items)
+    pub never : ⊥
+    pub places : p.firsts.items ≡ firsts 1 (states_of p.kids.items)
 
   abbrev pub IsSound : Node M G → Type 0
   IsSound (node.Waits plan) = Unit {0}
   IsSound (node.Leaf l) = IsLeafNode l
   IsSound (node.Par p) = IsParNode p
   IsSound (node.Sel p) = IsSelNode p
-
-  -- a state whose root a step may change so far
-  abbrev pub IsPlain : spec.State M G → Type 0
-  IsPlain (spec.waits plan) = Unit {0}
-  IsPlain (spec.leaf_state chan request leaf) = Unit {0}
-  IsPlain (spec.par_state par states) = ⊥
-  IsPlain (spec.sel_state sel states) = ⊥

@@ -1,7 +1,8 @@
 //! The counts of a parallel node.
 
 ghost use Rattle.std.specs.Prelude.{◌≡◌, ◌+◌, ◌-◌, ◌<◌, ◌||◌, nat_le, None};
-ghost use Rattle.call_tree.specs.Counts.{IsOpen, with_end};
+ghost use Rattle.std.specs.Option.{option_map};
+ghost use Rattle.call_tree.specs.Counts.{IsOpen, with_end, with_some};
 
 use rpc_model::End;
 
@@ -30,6 +31,17 @@ impl Counts {
                 bads: self.bads + 1,
                 ..self
             },
+        }
+    }
+
+    /// One more end of a sub, if there is one.
+    pub(crate) fn with_some(self, end: Option<&End>) -> Counts
+        requires { IsOpen self None }
+        ensures { result ≡ with_some self (option_map (λ e. e.now) end.entry) }
+    {
+        match end {
+            None => self,
+            Some(end) => self.with(end),
         }
     }
 

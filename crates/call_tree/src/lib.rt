@@ -1,6 +1,8 @@
 //! A whole call: its nodes, its log, and what each event makes it do. It is the plain machine of its log.
 #![tactic(auto)]
 
+mod asking;
+mod below;
 mod call;
 mod counts;
 mod deciding;
@@ -10,6 +12,7 @@ mod happening;
 mod leaf_node;
 mod nodes;
 mod outbox;
+mod par_node;
 mod starting;
 mod stepping;
 mod taking;
@@ -17,3 +20,6 @@ mod taking;
 pub use call::Call;
 pub use effects::Effects;
 pub use rpc_model::{MarkAt, Send};
+
+#[cfg(test)]
+mod tests;

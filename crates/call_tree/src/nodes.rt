@@ -44,7 +44,7 @@ pub(crate) struct ParNode<M, G> {
     pub(crate) counts: Counts,
     pub(crate) merges: List<G>,
     pub(crate) end: Option<End>,
-    pub(crate) firsts: List<u32>,
+    pub(crate) firsts: Vec<u32>,
     pub(crate) kids: Vec<Tree<M, G>>,
 }
 
@@ -54,7 +54,7 @@ pub(crate) struct ParNode<M, G> {
 pub(crate) struct SelNode<M, G> {
     pub(crate) request: Bytes,
     pub(crate) end: Option<End>,
-    pub(crate) firsts: List<u32>,
+    pub(crate) firsts: Vec<u32>,
     pub(crate) kids: Vec<Tree<M, G>>,
 }
 

@@ -43,8 +43,9 @@ impl<M: Mapper + Copy, G: Merger + Copy> Tree<M, G> {
         if node_of(event) >= nodes {
             return Ok(());
         }
-        let end = self.decide(alloc, 0, call, event, moment, out)?;
-        self.take(0, event, end);
+        let mut belows = Vec::new(alloc);
+        let end = self.decide(alloc, 0, call, event, moment, &mut belows, out)?;
+        self.take(0, event, end, &mut belows);
         Ok(())
     }
 }

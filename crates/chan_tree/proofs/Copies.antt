@@ -1,5 +1,5 @@
 -- One of several trees has no more nodes than all of them.
-use Rattle.std.proofs.Common.{◌≡◌, ℕ, zero, suc, ◌+◌, ◌<◌, ◌≤◌, List, [], ◌∷◌, length, get_or, drop, arith, ap, refl, add-one}
+use Rattle.std.proofs.Common.{◌≡◌, ℕ, zero, suc, ◌+◌, ◌<◌, ◌≤◌, List, [], ◌∷◌, length, get_or, drop, arith, refl, add-one}
 use Rattle.std.proofs.Math.Seq.{drop-cons}
 use Rattle.rpc_model.specs.Plan.{Plan}
 use Rattle.rpc_model.specs.Versions.{nodes, nodes_of, or_leaf, leaf_at, leaf_at_of}

@@ -1,4 +1,4 @@
-use Rattle.std.proofs.Common.{rules, arith, ap, sym, ◌∙◌, slice_get}
+use Rattle.std.proofs.Common.{arith, ap, sym, ◌∙◌, slice_get}
 use Rattle.std.specs.Option.{option_map}
 use Rattle.call_tree.proofs.Folds.{fold-step, fold-end, fold-past, less-next}
 use Rattle.call_tree.proofs.folding.fold.Goals.{in-Taken, in-Fail+else-failed-limit}
@@ -35,8 +35,8 @@ loop-kid-preserved g c =
     let here = c.loop-kid.invariant.open_ in
     let index = c.loop-kid.invariant.index in
     elim c.match-branch-2.branch [
-      in-Taken w ↦ record { merged = turn.taken c.match-branch-2.failed w.failed-is w.in-Taken.is; open_ = (let same = w.failed-is in omega (arith, here, same)); index = omega (arith, index) }
-    | in-Fail+else-failed-limit w ↦
-      let less = less-next c.loop-kid.failed c.args.limit here w.if-failed-limit.false in
-      record { merged = turn.fail_on c.match-branch-2.failed w.failed-is w.in-Fail.is w.if-failed-limit.false; open_ = (let same = w.failed-is in omega (arith, less, same)); index = omega (arith, index) }
+      | in-Taken w ↦ record { merged = turn.taken c.match-branch-2.failed w.failed-is w.in-Taken.is; open_ = (let same = w.failed-is in omega (arith, here, same)); index = omega (arith, index) }
+      | in-Fail+else-failed-limit w ↦
+          let less = less-next c.loop-kid.failed c.args.limit here w.if-failed-limit.false in
+          record { merged = turn.fail_on c.match-branch-2.failed w.failed-is w.in-Fail.is w.if-failed-limit.false; open_ = (let same = w.failed-is in omega (arith, less, same)); index = omega (arith, index) }
     ]
