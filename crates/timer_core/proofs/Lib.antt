@@ -1,2 +1,7 @@
 pub mod Order
+pub mod Chained
+pub mod Shifted
+pub mod Told
+pub mod Placed
+pub mod Ordered
 pub mod Kept

@@ -4,7 +4,11 @@
 //! they will be taken, and not how they are kept.
 #![tactic(auto)]
 
+mod chains;
+mod entry;
+mod home;
 mod laws;
+mod links;
 mod mark;
 mod marks;
 

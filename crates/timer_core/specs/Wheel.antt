@@ -1,0 +1,68 @@
+-- What a timer's wheel stands for: the marks of its heap and of its lists, in the order in which they are taken. This project's own choice.
+use Rattle.std.specs.Prelude.{◌≡◌, ℕ, suc, ◌+◌, ◌<◌, ◌≤◌, Bool, false, ◌==◌, ◌&&◌, ◌||◌, ltb, if◌then◌else◌, List, [], ◌∷◌, ◌++◌, map, length}
+use Rattle.std.specs.List.{AllByRecursion}
+use Rattle.std.specs.declared.cmp.Ordering.{Ordering}
+use Rattle.std.specs.Ordering.{nat_cmp, ordering_then}
+use Rattle.std.specs.BinaryHeap.{IsHeap}
+use Rattle.std.specs.declared.cmp.Reverse.{Reverse}
+use Rattle.timer_core.specs.declared.mark.Mark.{Mark}
+use Rattle.timer_core.specs.declared.entry.Entry.{Entry}
+use Rattle.timer_core.specs.Entries.{mark_of}
+use Rattle.timer_core.specs.Chains.{list_at}
+use Rattle.timer_core.specs.Homes.{home_of}
+
+-- whether an entry comes after another: by moment, by rank, by the order of adding, and then by what else it holds
+abbrev pub is_after : Entry → Entry → Bool
+is_after e f = ltb f.moment e.moment || (f.moment == e.moment && (ltb f.rank e.rank || (f.rank == e.rank && (ltb f.order e.order || (f.order == e.order && (ltb f.id e.id || (f.id == e.id && ltb f.code e.code)))))))
+
+-- the entries with one more, in front of those that come after it
+abbrev pub with_entry : Entry → List Entry → List Entry
+with_entry e [] = e ∷ []
+with_entry e (f ∷ fs) = if is_after f e then e ∷ f ∷ fs else f ∷ with_entry e fs
+
+-- the entries in the order in which they are taken
+abbrev pub in_order : List Entry → List Entry
+in_order [] = []
+in_order (e ∷ es) = with_entry e (in_order es)
+
+-- the entries of all lists
+abbrev pub all_of : List (List Entry) → List Entry
+all_of [] = []
+all_of (es ∷ lists) = es ++ all_of lists
+
+-- the lists but the first, whose nodes are free
+abbrev pub used_lists : List (List Entry) → List (List Entry)
+used_lists [] = []
+used_lists (free ∷ lists) = lists
+
+-- the entries of a heap that has the first one on top
+abbrev pub heap_entries : List (Reverse Entry) → List Entry
+heap_entries items = map (λ (r : Reverse Entry). r.0) items
+
+-- the entries that wait
+abbrev pub waiting_of : List (Reverse Entry) → List (List Entry) → List Entry
+waiting_of heap lists = heap_entries heap ++ all_of (used_lists lists)
+
+-- the marks that wait, in the order in which they are taken
+abbrev pub marks_of : List (Reverse Entry) → List (List Entry) → List Mark
+marks_of heap lists = map mark_of (in_order (waiting_of heap lists))
+
+-- how the heap compares
+abbrev pub by_entry : Reverse Entry → Reverse Entry → Ordering
+by_entry x y =
+    ordering_then (nat_cmp y.0.moment x.0.moment) (ordering_then (nat_cmp y.0.rank x.0.rank) (ordering_then (nat_cmp y.0.order x.0.order) (ordering_then (nat_cmp y.0.id x.0.id) (nat_cmp y.0.code x.0.code))))
+
+-- an entry stands in the list of its moment, which the base hasn't reached
+pub record IsHome (base list : ℕ) (e : Entry) : Type 0 where
+  pub later : base < e.moment
+  pub within : e.moment < 18446744073709551616
+  pub home : home_of base e.moment ≡ list
+
+-- Where each mark stands: those whose moment is reached in the heap, the others in the lists of their moments. There are so many, fewer than the order of the next one.
+pub record IsWheel (base next count room : ℕ) (heap : List (Reverse Entry)) (lists : List (List Entry)) : Type 0 where
+  pub reached : AllByRecursion (λ (r : Reverse Entry). r.0.moment ≤ base) heap
+  pub ordered : IsHeap by_entry heap
+  pub homes : (k : ℕ) → 0 < k → AllByRecursion (IsHome base k) (list_at lists k)
+  pub orders : AllByRecursion (λ (e : Entry). e.order < next) (waiting_of heap lists)
+  pub counted : length (waiting_of heap lists) ≡ count
+  pub roomy : count ≤ room
