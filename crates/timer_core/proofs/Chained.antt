@@ -1,11 +1,11 @@
 -- Lists whose nodes are linked by numbers: what an entry that goes from one to another changes, and what it leaves.
-use Rattle.std.proofs.Common.{◌≡◌, ℕ, zero, suc, ◌+◌, ◌-◌, ◌<◌, ◌≤◌, ◌≢◌, ◌==◌, Bool, true, false, cond, List, [], ◌∷◌, ◌++◌, map, length, set, get_or, sum_by, min, arith, refl, sym, ap, ◌∙◌, subst, get_or-set_other, get_or-set_same, add-one}
+use Rattle.std.proofs.Common.{◌≡◌, ℕ, zero, suc, ◌<◌, ◌≤◌, ◌≢◌, ◌==◌, false, cond, List, [], ◌∷◌, ◌++◌, map, length, set, get_or, min, arith, refl, sym, ap, ◌∙◌, subst, get_or-set_other}
 use Rattle.std.proofs.lemmas.List.{get_or_append_left}
 use Rattle.std.proofs.lemmas.Bool.Decides.{nat_tests}
 use Rattle.timer_core.specs.declared.entry.Entry.{Entry}
 use Rattle.timer_core.specs.declared.links.Node.{Node}
 use Rattle.timer_core.specs.declared.links.End.{End}
-use Rattle.timer_core.specs.Chains.{blank_node, no_nodes, node_at, end_at, entries_from, entries_of, lists_of, list_at, least_of, rest_of, front_before, IsShifted, least_at, linked, unlinked, IsLink, IsChain, depth_of, AreChained}
+use Rattle.timer_core.specs.Chains.{blank_node, node_at, end_at, entries_from, entries_of, lists_of, list_at, least_of, least_at, IsLink, IsChain}
 
 -- the nodes of a list are the same in both vectors
 abbrev pub Agree : List Node → List Node → ℕ → ℕ → Type 0

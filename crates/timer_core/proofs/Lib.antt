@@ -4,4 +4,6 @@ pub mod Shifted
 pub mod Told
 pub mod Placed
 pub mod Ordered
+pub mod Spread
+pub mod Taken
 pub mod Kept

@@ -1,5 +1,5 @@
 -- The order of entries: what the same entries stand for whatever lists they stand in.
-use Rattle.std.proofs.Common.{◌≡◌, ℕ, zero, suc, ◌+◌, ◌<◌, ◌≤◌, ◌==◌, ◌&&◌, ◌||◌, ltb, Bool, true, false, cond, List, [], ◌∷◌, ◌++◌, map, length, sum_by, Some, None, arith, refl, sym, ap, ◌∙◌, subst}
+use Rattle.std.proofs.Common.{◌≡◌, ℕ, ◌+◌, ◌<◌, ◌≤◌, ◌==◌, ◌&&◌, ◌||◌, ltb, Bool, true, false, cond, List, [], ◌∷◌, ◌++◌, map, sum_by, arith, refl, sym, ap, ◌∙◌}
 use Rattle.std.specs.List.{AllByRecursion}
 use Rattle.std.proofs.lemmas.Bool.Decides.{nat_tests}
 use Rattle.std.proofs.lemmas.List.Sums.{sum_by-cons}
@@ -7,7 +7,7 @@ use Rattle.timer_core.specs.declared.mark.Mark.{Mark}
 use Rattle.timer_core.specs.declared.entry.Entry.{Entry}
 use Rattle.timer_core.specs.Entries.{mark_of, entry_of}
 use Rattle.timer_core.specs.Marks.{comes_after, added}
-use Rattle.timer_core.specs.Wheel.{is_after, with_entry, in_order}
+use Rattle.timer_core.specs.Wheel.{is_after, with_entry, in_order, AreAlike, IsLeast}
 
 -- ---- the order, on numbers
 
@@ -63,9 +63,9 @@ same_entry e f h g =
     ∙ ap (λ (o : ℕ). made f.moment f.rank o e.id e.code) c
     ∙ ap (λ (i : ℕ). made f.moment f.rank f.order i e.code) d
     ∙ ap (λ (k : ℕ). made f.moment f.rank f.order f.id k) x
-    where
-      made : ℕ → ℕ → ℕ → ℕ → ℕ → Entry
-      made m r o i k = record { moment = m; rank = r; order = o; id = i; code = k }
+  where
+    made : ℕ → ℕ → ℕ → ℕ → ℕ → Entry
+    made m r o i k = record { moment = m; rank = r; order = o; id = i; code = k }
 
 -- ---- lists in order
 
@@ -84,10 +84,6 @@ all_left P (x ∷ xs) ys h = (h.0, all_left P xs ys h.1)
 pub all_right : {X : Type 0} (P : X → Type 0) (xs ys : List X) → AllByRecursion P (xs ++ ys) → AllByRecursion P ys
 all_right P [] ys h = h
 all_right P (x ∷ xs) ys h = all_right P xs ys h.1
-
--- an entry comes after none of the entries
-abbrev pub IsLeast : Entry → List Entry → Type 0
-IsLeast e es = AllByRecursion (λ f. is_after e f ≡ false) es
 
 abbrev pub AreAscending : List Entry → Type 0
 AreAscending [] = Unit {0}
@@ -134,10 +130,6 @@ sum_in_order w (e ∷ es) = sum_with w e (in_order es) ∙ ap (λ n. w e + n) (s
 
 -- ---- one order
 
--- the same entries, each as often
-abbrev pub AreAlike : List Entry → List Entry → Type 0
-AreAlike xs ys = (w : Entry → ℕ) → sum_by w xs ≡ sum_by w ys
-
 -- one for each entry before this one
 abbrev pub one_before : Entry → Entry → ℕ
 one_before e f = cond (is_after e f) 1 0
@@ -155,21 +147,21 @@ first_alike e f es fs h a false t = t
 first_alike e f es fs h a true t =
     let n = none_after e (e ∷ es) (past_itself e.moment e.rank e.order e.id e.code, h) in
     let o : one_before e f ≡ 1 = ap (λ (b : Bool). unit_if b) t in
-    absurd (omega (arith, n, a (one_before e), o, sum_by-cons (one_before e) f fs))
+    absurd (omega (arith, n, a.same (one_before e), o, sum_by-cons (one_before e) f fs))
 
 rest_alike : (e f : Entry) (es fs : List Entry) → e ≡ f → AreAlike (e ∷ es) (f ∷ fs) → AreAlike es fs
-rest_alike e f es fs s a w = let one : w e ≡ w f = ap w s in omega (arith, a w, one, sum_by-cons w e es, sum_by-cons w f fs)
+rest_alike e f es fs s a = record { same = λ w. let one : w e ≡ w f = ap w s in omega (arith, a.same w, one, sum_by-cons w e es, sum_by-cons w f fs) }
 
-abbrev one_each : Entry → ℕ
+abbrev pub one_each : Entry → ℕ
 one_each e = 1
 
 -- entries have one order
 pub one_order : (xs ys : List Entry) → AreAscending xs → AreAscending ys → AreAlike xs ys → xs ≡ ys
 one_order [] [] h k a = refl
-one_order [] (y ∷ ys) h k a = absurd (omega (arith, a one_each, sum_by-cons one_each y ys))
-one_order (x ∷ xs) [] h k a = absurd (omega (arith, a one_each, sum_by-cons one_each x xs))
+one_order [] (y ∷ ys) h k a = absurd (omega (arith, a.same one_each, sum_by-cons one_each y ys))
+one_order (x ∷ xs) [] h k a = absurd (omega (arith, a.same one_each, sum_by-cons one_each x xs))
 one_order (x ∷ xs) (y ∷ ys) h k a =
-    let e : x ≡ y = same_entry x y (first_alike x y xs ys h.0 a (is_after x y) refl) (first_alike y x ys xs k.0 (λ w. sym (a w)) (is_after y x) refl) in
+    let e : x ≡ y = same_entry x y (first_alike x y xs ys h.0 a (is_after x y) refl) (first_alike y x ys xs k.0 (record { same = λ w. sym (a.same w) }) (is_after y x) refl) in
     ap (λ (z : Entry). z ∷ xs) e ∙ ap (λ (zs : List Entry). y ∷ zs) (one_order xs ys h.1 k.1 (rest_alike x y xs ys e a))
 
 -- ---- marks

@@ -49,7 +49,6 @@ rises (suc n) list m c b h k = rises_if n list m c b (are_near m b) (are_near c 
 
 -- ---- the base moves to the first moment
 
-
 stays_if : (n list m c b : ℕ) (t u v : Bool) → are_near c b ≡ t → are_near m b ≡ u → are_near m c ≡ v → b ≤ c → c ≤ m
     → cond u (list + m % 256) (list_from n (list + 256) (m / 256) (b / 256)) ≢ cond t (list + c % 256) (list_from n (list + 256) (c / 256) (b / 256))
     → (b / 256 ≤ c / 256 → c / 256 ≤ m / 256 → list_from n (list + 256) (m / 256) (b / 256) ≢ list_from n (list + 256) (c / 256) (b / 256) → list_from n (list + 256) (m / 256) (c / 256) ≡ list_from n (list + 256) (m / 256) (b / 256))

@@ -1,13 +1,13 @@
 -- A node that goes from one list to another: the lists then, and that each node still stands in one list, once.
-use Rattle.std.proofs.Common.{◌≡◌, ℕ, zero, suc, ◌+◌, ◌-◌, ◌<◌, ◌≤◌, ◌≢◌, ◌⊎◌, inl, inr, List, [], ◌∷◌, ◌++◌, map, length, set, get_or, sum_by, min, arith, refl, sym, ap, ◌∙◌, subst, get_or-set_other, get_or-set_same, add-one, length-set}
+use Rattle.std.proofs.Common.{◌≡◌, ℕ, suc, ◌+◌, ◌-◌, ◌<◌, ◌≤◌, ◌≢◌, inl, inr, List, ◌∷◌, length, set, sum_by, min, arith, refl, sym, ap, ◌∙◌, subst, get_or-set_other, get_or-set_same, add-one, length-set}
 use Rattle.std.proofs.lemmas.Bool.{cases_eq}
-use Rattle.std.proofs.lemmas.List.{map-set, get_or_push, length_push}
+use Rattle.std.proofs.lemmas.List.{map-set}
 use Rattle.std.proofs.lemmas.List.Sums.{sum_by-set, get_or-le-sum_by}
 use Rattle.timer_core.specs.declared.entry.Entry.{Entry}
 use Rattle.timer_core.specs.declared.links.Node.{Node}
 use Rattle.timer_core.specs.declared.links.End.{End}
-use Rattle.timer_core.specs.Chains.{blank_node, no_nodes, node_at, end_at, entries_from, entries_of, lists_of, list_at, least_of, rest_of, front_before, IsShifted, least_at, linked, unlinked, IsLink, IsChain, depth_of, AreChained}
-use Rattle.timer_core.proofs.Chained.{Agree, Lacks, entries_alike, chain_alike, lacks_other, lacks_deeper, agree_set, agree_push, least_told, map_alike, list_told}
+use Rattle.timer_core.specs.Chains.{blank_node, no_nodes, node_at, end_at, entries_from, entries_of, lists_of, list_at, least_of, rest_of, front_before, IsShifted, linked, unlinked, IsLink, IsChain, depth_of, AreChained}
+use Rattle.timer_core.proofs.Chained.{Agree, Lacks, entries_alike, chain_alike, lacks_other, lacks_deeper, agree_set, least_told, map_alike, list_told}
 
 -- where a list begins that has one node more in front
 abbrev pub longer : ℕ → End → End
@@ -49,13 +49,13 @@ module _ (nodes more : List Node) (ends : List End) (to x : ℕ) (e : Entry) (b 
   pub attached_chains : (k : ℕ) → k < length (set ends to (longer x b)) → IsChain more k (end_at (set ends to (longer x b)) k).depth (end_at (set ends to (longer x b)) k).head
   attached_chains k h = elim (cases_eq k to) [
     | inl s ↦
-      subst (λ (i : ℕ). IsChain more i (end_at (set ends to (longer x b)) i).depth (end_at (set ends to (longer x b)) i).head) (sym s)
-      (subst (λ (z : End). IsChain more to z.depth z.head) (sym (get_or-set_same ends to (longer x b) no_nodes t)) (subst (λ d. IsChain more to d x) (sym (add-one b.depth)) front_chain))
+        subst (λ (i : ℕ). IsChain more i (end_at (set ends to (longer x b)) i).depth (end_at (set ends to (longer x b)) i).head) (sym s)
+        (subst (λ (z : End). IsChain more to z.depth z.head) (sym (get_or-set_same ends to (longer x b) no_nodes t)) (subst (λ d. IsChain more to d x) (sym (add-one b.depth)) front_chain))
     | inr n ↦
-      subst (λ (z : End). IsChain more k z.depth z.head) (sym (get_or-set_other ends to k (longer x b) no_nodes n))
-      (let long : length (set ends to (longer x b)) ≡ length ends = length-set ends to (longer x b) in
-          let in_range : k < length ends = omega (arith, h, long) in
-          chain_alike nodes more k (end_at ends k).depth (end_at ends k).head l (chains k in_range).1 (chains k in_range).0)
+        subst (λ (z : End). IsChain more k z.depth z.head) (sym (get_or-set_other ends to k (longer x b) no_nodes n))
+        (let long : length (set ends to (longer x b)) ≡ length ends = length-set ends to (longer x b) in
+        let in_range : k < length ends = omega (arith, h, long) in
+        chain_alike nodes more k (end_at ends k).depth (end_at ends k).head l (chains k in_range).1 (chains k in_range).0)
   ]
 
 -- ---- a list without its first node
@@ -87,14 +87,14 @@ module _ (nodes : List Node) (ends : List End) (from : ℕ) (f : from < length e
   pub detached_chains : (k : ℕ) → k < length (set ends from (unlinked nodes (end_at ends from))) → IsChain nodes k (end_at (set ends from (unlinked nodes (end_at ends from))) k).depth (end_at (set ends from (unlinked nodes (end_at ends from))) k).head × Lacks nodes (end_at (set ends from (unlinked nodes (end_at ends from))) k).depth (end_at (set ends from (unlinked nodes (end_at ends from))) k).head (end_at ends from).head
   detached_chains k h = elim (cases_eq k from) [
     | inl s ↦
-      subst (λ (i : ℕ). IsChain nodes i (end_at (set ends from (unlinked nodes (end_at ends from))) i).depth (end_at (set ends from (unlinked nodes (end_at ends from))) i).head × Lacks nodes (end_at (set ends from (unlinked nodes (end_at ends from))) i).depth (end_at (set ends from (unlinked nodes (end_at ends from))) i).head (end_at ends from).head) (sym s)
-      (subst (λ (z : End). IsChain nodes from z.depth z.head × Lacks nodes z.depth z.head (end_at ends from).head) (sym (get_or-set_same ends from (unlinked nodes (end_at ends from)) no_nodes f))
-          (first_of_list.1, lacks_deeper nodes from ((end_at ends from).depth - 1) (node_at nodes (end_at ends from).head).next (end_at ends from).head first_of_list.1 (omega (arith, first_of_list.0.deep))))
+        subst (λ (i : ℕ). IsChain nodes i (end_at (set ends from (unlinked nodes (end_at ends from))) i).depth (end_at (set ends from (unlinked nodes (end_at ends from))) i).head × Lacks nodes (end_at (set ends from (unlinked nodes (end_at ends from))) i).depth (end_at (set ends from (unlinked nodes (end_at ends from))) i).head (end_at ends from).head) (sym s)
+        (subst (λ (z : End). IsChain nodes from z.depth z.head × Lacks nodes z.depth z.head (end_at ends from).head) (sym (get_or-set_same ends from (unlinked nodes (end_at ends from)) no_nodes f))
+        (first_of_list.1, lacks_deeper nodes from ((end_at ends from).depth - 1) (node_at nodes (end_at ends from).head).next (end_at ends from).head first_of_list.1 (omega (arith, first_of_list.0.deep))))
     | inr n ↦
-      subst (λ (z : End). IsChain nodes k z.depth z.head × Lacks nodes z.depth z.head (end_at ends from).head) (sym (get_or-set_other ends from k (unlinked nodes (end_at ends from)) no_nodes n))
-      (let long : length (set ends from (unlinked nodes (end_at ends from))) ≡ length ends = length-set ends from (unlinked nodes (end_at ends from)) in
-          let in_range : k < length ends = omega (arith, h, long) in
-          (chains k in_range, lacks_other nodes k (end_at ends k).depth (end_at ends k).head (end_at ends from).head (chains k in_range) (λ s. n (sym s ∙ first_of_list.0.same))))
+        subst (λ (z : End). IsChain nodes k z.depth z.head × Lacks nodes z.depth z.head (end_at ends from).head) (sym (get_or-set_other ends from k (unlinked nodes (end_at ends from)) no_nodes n))
+        (let long : length (set ends from (unlinked nodes (end_at ends from))) ≡ length ends = length-set ends from (unlinked nodes (end_at ends from)) in
+        let in_range : k < length ends = omega (arith, h, long) in
+        (chains k in_range, lacks_other nodes k (end_at ends k).depth (end_at ends k).head (end_at ends from).head (chains k in_range) (λ s. n (sym s ∙ first_of_list.0.same))))
   ]
 
 -- ---- from one list to another

@@ -1,14 +1,14 @@
 -- What the nodes tell of the lists that they stand for.
-use Rattle.std.proofs.Common.{◌≡◌, ℕ, zero, suc, ◌+◌, ◌-◌, ◌<◌, ◌≤◌, ◌≢◌, inl, inr, List, [], ◌∷◌, ◌++◌, map, length, set, get_or, sum_by, min, arith, refl, sym, ap, ◌∙◌, subst, get_or-set_other, get_or-set_same, add-one, length-set}
+use Rattle.std.proofs.Common.{◌≡◌, ℕ, zero, suc, ◌+◌, ◌-◌, ◌<◌, ◌≤◌, ◌≢◌, inl, inr, List, [], ◌∷◌, ◌++◌, length, set, arith, refl, sym, ap, ◌∙◌, subst, get_or-set_same, length-set}
 use Rattle.std.proofs.lemmas.Bool.{cases_lt}
 use Rattle.std.proofs.lemmas.List.{get_or_push, length_push, length-map, set-set, set-get_or}
 use Rattle.std.proofs.lemmas.List.Sums.{sum_by-set, get_or-le-sum_by}
 use Rattle.timer_core.specs.declared.entry.Entry.{Entry}
 use Rattle.timer_core.specs.declared.links.Node.{Node}
 use Rattle.timer_core.specs.declared.links.End.{End}
-use Rattle.timer_core.specs.Chains.{blank_node, no_nodes, node_at, end_at, entries_from, entries_of, lists_of, list_at, least_of, rest_of, front_before, IsShifted, least_at, linked, unlinked, IsLink, IsChain, depth_of, AreChained}
+use Rattle.timer_core.specs.Chains.{blank_node, no_nodes, node_at, end_at, entries_from, entries_of, lists_of, list_at, least_of, rest_of, front_before, IsShifted, least_at, linked, unlinked, IsChain, depth_of, AreChained}
 use Rattle.timer_core.proofs.Chained.{Agree, agree_set, agree_push, least_told, list_told}
-use Rattle.timer_core.proofs.Shifted.{longer, attached_lists, attached_chains, detached_lists, detached_chains, first_within, rest_told, depth_is, shift_room, shift_kept, shift_lists}
+use Rattle.timer_core.proofs.Shifted.{longer, attached_lists, attached_chains, detached_lists, detached_chains, first_within, rest_told, shift_room, shift_kept, shift_lists}
 
 -- there are as many lists as ends
 pub counted : (nodes : List Node) (ends : List End) (ls : List (List Entry)) → lists_of nodes ends ≡ ls → length ends ≡ length ls
@@ -126,3 +126,21 @@ module _ (nodes : List Node) (ends : List End) (ls : List (List Entry)) (v : lis
   shifted_lists =
       subst (λ (zs : List (List Entry)). IsShifted from to zs (lists_of (set nodes (end_at ends from).head (linked nodes (end_at ends to) to (node_at nodes (end_at ends from).head).entry)) (set (set ends from (unlinked nodes (end_at ends from))) to (longer (end_at ends from).head (end_at ends to))))) v
       (shift_lists nodes ends from to kept f t apart (some_depth nodes ends ls v from some))
+
+-- an entry in a node that was free
+pub insert_told : (list : ℕ) (e : Entry) (old mid new : List (List Entry)) → 0 < list → list < length old → IsShifted 0 list old mid → list_at old 0 ≢ [] → new ≡ set mid list (e ∷ rest_of (list_at mid list)) → new ≡ set (set old 0 (rest_of (list_at old 0))) list (e ∷ list_at old list)
+insert_told list e old mid new u f is some n =
+    let long : length (set old 0 (rest_of (list_at old 0))) ≡ length old = length-set old 0 (rest_of (list_at old 0)) in
+    let there : list_at mid list ≡ front_before (list_at old 0) (list_at old list) = ap (λ (ls : List (List Entry)). list_at ls list) is ∙ get_or-set_same (set old 0 (rest_of (list_at old 0))) list (front_before (list_at old 0) (list_at old list)) [] (omega (arith, f, long)) in
+    n ∙ ap (λ (ls : List (List Entry)). set ls list (e ∷ rest_of (list_at mid list))) is
+    ∙ set-set (set old 0 (rest_of (list_at old 0))) list (front_before (list_at old 0) (list_at old list)) (e ∷ rest_of (list_at mid list))
+    ∙ ap (λ (es : List Entry). set (set old 0 (rest_of (list_at old 0))) list (e ∷ es)) (ap (λ (es : List Entry). rest_of es) there ∙ rest_front (list_at old 0) (list_at old list) some)
+  where
+    rest_front : (es more : List Entry) → es ≢ [] → rest_of (front_before es more) ≡ more
+    rest_front [] more s = absurd (s refl)
+    rest_front (x ∷ es) more s = refl
+
+-- and where no node is free
+pub insert_new : (list : ℕ) (e : Entry) (old : List (List Entry)) → list_at old 0 ≡ [] → set old list (e ∷ list_at old list) ≡ set (set old 0 (rest_of (list_at old 0))) list (e ∷ list_at old list)
+insert_new list e old none =
+    ap (λ (ls : List (List Entry)). set ls list (e ∷ list_at old list)) (sym (ap (λ (es : List Entry). set old 0 es) (ap (λ (es : List Entry). rest_of es) none ∙ sym none) ∙ set-get_or old 0 []))

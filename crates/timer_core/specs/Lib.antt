@@ -3,5 +3,4 @@ pub mod Entries
 pub mod Homes
 pub mod Laws
 pub mod Marks
-pub mod Places
 pub mod Wheel

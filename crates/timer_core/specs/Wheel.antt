@@ -1,5 +1,5 @@
 -- What a timer's wheel stands for: the marks of its heap and of its lists, in the order in which they are taken. This project's own choice.
-use Rattle.std.specs.Prelude.{◌≡◌, ℕ, suc, ◌+◌, ◌<◌, ◌≤◌, Bool, false, ◌==◌, ◌&&◌, ◌||◌, ltb, if◌then◌else◌, List, [], ◌∷◌, ◌++◌, map, length}
+use Rattle.std.specs.Prelude.{◌≡◌, ℕ, ◌<◌, ◌≤◌, ◌≢◌, Bool, true, false, ◌==◌, ◌&&◌, ◌||◌, ltb, if◌then◌else◌, List, [], ◌∷◌, ◌++◌, map, length, set, sum_by}
 use Rattle.std.specs.List.{AllByRecursion}
 use Rattle.std.specs.declared.cmp.Ordering.{Ordering}
 use Rattle.std.specs.Ordering.{nat_cmp, ordering_then}
@@ -8,7 +8,7 @@ use Rattle.std.specs.declared.cmp.Reverse.{Reverse}
 use Rattle.timer_core.specs.declared.mark.Mark.{Mark}
 use Rattle.timer_core.specs.declared.entry.Entry.{Entry}
 use Rattle.timer_core.specs.Entries.{mark_of}
-use Rattle.timer_core.specs.Chains.{list_at}
+use Rattle.timer_core.specs.Chains.{list_at, rest_of}
 use Rattle.timer_core.specs.Homes.{home_of}
 
 -- whether an entry comes after another: by moment, by rank, by the order of adding, and then by what else it holds
@@ -58,11 +58,61 @@ pub record IsHome (base list : ℕ) (e : Entry) : Type 0 where
   pub within : e.moment < 18446744073709551616
   pub home : home_of base e.moment ≡ list
 
--- Where each mark stands: those whose moment is reached in the heap, the others in the lists of their moments. There are so many, fewer than the order of the next one.
-pub record IsWheel (base next count room : ℕ) (heap : List (Reverse Entry)) (lists : List (List Entry)) : Type 0 where
+-- where each entry stands: those whose moment is reached in the heap, the others in the lists of their moments
+pub record IsSettled (base : ℕ) (heap : List (Reverse Entry)) (lists : List (List Entry)) : Type 0 where
   pub reached : AllByRecursion (λ (r : Reverse Entry). r.0.moment ≤ base) heap
   pub ordered : IsHeap by_entry heap
   pub homes : (k : ℕ) → 0 < k → AllByRecursion (IsHome base k) (list_at lists k)
-  pub orders : AllByRecursion (λ (e : Entry). e.order < next) (waiting_of heap lists)
+
+-- an entry of a list whose first moment the base has reached: it goes to the heap, or to an earlier list
+pub record IsSinking (base list : ℕ) (e : Entry) : Type 0 where
+  pub from : base ≤ e.moment
+  pub within : e.moment < 18446744073709551616
+  pub sinks : base < e.moment → home_of base e.moment < list
+
+-- the same while the entries of one list go where they stand from now on
+pub record IsSpreading (base list : ℕ) (heap : List (Reverse Entry)) (lists : List (List Entry)) : Type 0 where
+  pub reached : AllByRecursion (λ (r : Reverse Entry). r.0.moment ≤ base) heap
+  pub ordered : IsHeap by_entry heap
+  pub homes : (k : ℕ) → 0 < k → k ≢ list → AllByRecursion (IsHome base k) (list_at lists k)
+  pub sinking : AllByRecursion (IsSinking base list) (list_at lists list)
+
+-- the same entries, each as often, in another order
+pub record AreAlike (xs ys : List Entry) : Type 0 where
+  pub same : (w : Entry → ℕ) → sum_by w xs ≡ sum_by w ys
+
+-- an entry comes after none of the entries
+abbrev pub IsLeast : Entry → List Entry → Type 0
+IsLeast e es = AllByRecursion (λ f. is_after e f ≡ false) es
+
+-- no entry is due
+abbrev pub AreLater : ℕ → List Entry → Type 0
+AreLater now es = AllByRecursion (λ (e : Entry). now < e.moment) es
+
+-- the least moment of some entries
+pub record IsFirstMoment (es : List Entry) (moment : ℕ) : Type 0 where
+  pub least : AllByRecursion (λ (e : Entry). moment ≤ e.moment) es
+  pub there : AreLater moment es → ⊥
+
+-- the lists hold the same, whatever their number
+pub record HoldTheSame (old new : List (List Entry)) : Type 0 where
+  pub all : all_of (used_lists new) ≡ all_of (used_lists old)
+  pub each : (k : ℕ) → list_at new k ≡ list_at old k
+
+-- the first list that has an entry
+pub record IsFirstList (lists : List (List Entry)) (list : ℕ) : Type 0 where
+  pub used : 0 < list
+  pub within : list < length lists
+  pub some : list_at lists list ≢ []
+  pub first : (k : ℕ) → 0 < k → k < list → list_at lists k ≡ []
+
+-- the lists with one entry more in front of one, for which a free node is used where there is one
+abbrev pub inserted : ℕ → Entry → List (List Entry) → List (List Entry)
+inserted list e lists = set (set lists 0 (rest_of (list_at lists 0))) list (e ∷ list_at lists list)
+
+-- What a wheel keeps: where each entry stands, that each was added before the next one, how many there are, and that the heap has room for all of them.
+pub record IsWheel (base next count room : ℕ) (heap : List (Reverse Entry)) (lists : List (List Entry)) : Type 0 where
+  pub settled : IsSettled base heap lists
+  pub orders : AllByRecursion (λ (e : Entry). ltb e.order next ≡ true) (waiting_of heap lists)
   pub counted : length (waiting_of heap lists) ≡ count
   pub roomy : count ≤ room

@@ -1,8 +1,9 @@
 //! Lists of entries whose nodes stand in one vector, linked by numbers, so that an entry goes from one list to another
 //! without memory.
 
-ghost use Rattle.std.specs.Prelude.{◌≡◌, ◌≢◌, ◌+◌, ◌<◌, ◌↔◌, [], ◌∷◌, ◌++◌, length, set, min, replicate, IsTrue, OnOk, OnErr, MatchOption, ◌≤◌};
-ghost use Rattle.timer_core.specs.Chains.{blank, list_at, least_of, rest_of, front_before, IsShifted};
+ghost use Rattle.std.specs.Prelude.{◌≡◌, ℕ, ◌≢◌, ◌+◌, ◌<◌, ◌↔◌, [], ◌∷◌, ◌++◌, length, set, min, replicate, IsTrue, OnOk, OnErr, MatchOption, ◌≤◌};
+ghost use Rattle.timer_core.specs.Chains.{list_at, least_of, rest_of, IsShifted};
+ghost use Rattle.timer_core.specs.Wheel.{inserted, IsFirstList};
 
 use crate::entry::Entry;
 use crate::links::{End, Node, end_of, entry_at, least_from, push_node, put_entry, shift_node};
@@ -117,5 +118,34 @@ impl Chains {
         ensures { self.new ≡ set self.old list (entry ∷ rest_of (list_at self.old list)) }
     {
         put_entry(&mut self.nodes, &self.ends, list, entry);
+    }
+
+    /// Puts an entry in front of a list, in a node of list 0 where it has one, else in a new one. Where memory runs out
+    /// nothing changes.
+    pub fn insert(&mut self, list: usize, entry: Entry) -> Result<(), NoMemory>
+        requires used { 0 < list }
+        requires list_in { list < length self.old }
+        ensures after { OnOk result (self.new ≡ inserted list entry self.old) }
+        ensures failed { OnErr result (self.new ≡ self.old) }
+    {
+        if self.is_vacant(0) {
+            self.push(list, entry)?;
+            return Ok(());
+        }
+        self.shift(0, list);
+        self.put(list, entry);
+        Ok(())
+    }
+
+    /// The first list with an entry, list 0 left out.
+    pub fn first_list(&self) -> Option<usize>
+        ensures { MatchOption result ((k : ℕ) → 0 < k → list_at self.now k ≡ []) (λ k. IsFirstList self.now k) }
+    {
+        for list in 1..self.count() {
+            if !self.is_vacant(list) {
+                return Some(list);
+            }
+        }
+        None
     }
 }

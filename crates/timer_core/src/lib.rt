@@ -11,6 +11,7 @@ mod laws;
 mod links;
 mod mark;
 mod marks;
+mod wheel;
 
 pub use laws::{equal_marks_keep_their_order, marks_are_kept, marks_are_sorted};
 pub use mark::Mark;

@@ -62,13 +62,28 @@ fn linked_node(nodes: &Vec<Node>, end: End, list: u32, entry: Entry) -> Node
     requires room { end.depth + 1 < 4294967296 }
     ensures { result ≡ linked nodes.now.items end list entry }
 {
-    let behind = least_from(nodes, end);
+    let least = least_from(nodes, end);
     Node {
         entry,
-        least: if entry.moment <= behind { entry.moment } else { behind },
+        least: if entry.moment <= least {
+            entry.moment
+        } else {
+            least
+        },
         next: end.head,
         list,
         depth: end.depth + 1,
+    }
+}
+
+/// A list without its first node.
+fn behind(node: Node, end: End) -> End
+    requires { 0 < end.depth }
+    ensures { result ≡ record { head = node.next; depth = end.depth - 1 } }
+{
+    End {
+        head: node.next,
+        depth: end.depth - 1,
     }
 }
 
@@ -88,10 +103,7 @@ pub fn shift_node(nodes: &mut Vec<Node>, ends: &mut Vec<End>, from: usize, to: u
     let end = ends[from];
     let at = end.head as usize;
     let node = nodes[at];
-    ends[from] = End {
-        head: node.next,
-        depth: end.depth - 1,
-    };
+    ends[from] = behind(node, end);
     let other = ends[to];
     nodes[at] = linked_node(nodes, other, to as u32, node.entry);
     ends[to] = End {
@@ -101,7 +113,12 @@ pub fn shift_node(nodes: &mut Vec<Node>, ends: &mut Vec<End>, from: usize, to: u
 }
 
 /// Puts an entry in front of a list, in a new node. Where memory runs out, or there are 2^32 - 1 nodes, nothing changes.
-pub fn push_node(nodes: &mut Vec<Node>, ends: &mut Vec<End>, list: usize, entry: Entry) -> Result<(), NoMemory>
+pub fn push_node(
+    nodes: &mut Vec<Node>,
+    ends: &mut Vec<End>,
+    list: usize,
+    entry: Entry,
+) -> Result<(), NoMemory>
     requires list_in { list < length ends.old.items }
     requires list { list < 4294967296 }
     requires head { 0 < (end_at ends.old.items list).depth → (end_at ends.old.items list).head < length nodes.old.items }
@@ -137,9 +154,5 @@ pub fn put_entry(nodes: &mut Vec<Node>, ends: &Vec<End>, list: usize, entry: Ent
 {
     let end = ends[list];
     let node = nodes[end.head as usize];
-    let behind = End {
-        head: node.next,
-        depth: end.depth - 1,
-    };
-    nodes[end.head as usize] = linked_node(nodes, behind, list as u32, entry);
+    nodes[end.head as usize] = linked_node(nodes, behind(node, end), list as u32, entry);
 }

@@ -1,6 +1,6 @@
-use Rattle.std.proofs.Common.{◌≡◌, ℕ, suc, ◌+◌, ◌-◌, ◌<◌, ◌==◌, ◌/◌, true, false, arith, ap, sym, ◌∙◌, subst}
+use Rattle.std.proofs.Common.{◌≡◌, suc, ◌+◌, ◌-◌, true, false, arith, ap, sym, ◌∙◌}
 use Rattle.std.proofs.lemmas.Bool.Decides.{nat_tests}
-use Rattle.timer_core.specs.Homes.{list_from, home_of}
+use Rattle.timer_core.specs.Homes.{list_from}
 use Rattle.timer_core.proofs.Placed.{are_near, near_step, far_step, no_step, home_is, home_in}
 use Rattle.timer_core.proofs.home.home.Goals as goal
 
@@ -16,10 +16,13 @@ returns-then-left-reached-clause-of c =
 pub loop-level-preserved : goal.loop-level-preserved
 loop-level-preserved c =
     let n : 8 - c.loop-level._level ≡ suc (8 - (c.loop-level._level + 1)) = omega arith in
-    let t : are_near c.loop-level.left c.loop-level.reached ≡ false = grind (arith, nat_tests) in
-    (sym (far_step (8 - (c.loop-level._level + 1)) c.loop-level.list c.loop-level.left c.loop-level.reached t)
-        ∙ ap (λ k. list_from k c.loop-level.list c.loop-level.left c.loop-level.reached) (sym n)
-        ∙ c.loop-level.invariant.0, omega arith, omega arith)
+    let t : are_near c.loop-level.left c.loop-level.reached ≡ false = grind (arith, nat_tests) in (
+      sym (far_step (8 - (c.loop-level._level + 1)) c.loop-level.list c.loop-level.left c.loop-level.reached t)
+          ∙ ap (λ k. list_from k c.loop-level.list c.loop-level.left c.loop-level.reached) (sym n)
+          ∙ c.loop-level.invariant.0,
+      omega arith,
+      omega arith,
+    )
 
 pub returns-clause-of : goal.returns-clause-of
 returns-clause-of c =

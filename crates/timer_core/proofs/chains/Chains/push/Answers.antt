@@ -1,4 +1,4 @@
-use Rattle.std.proofs.Common.{◌≡◌, ◌<◌, arith}
+use Rattle.std.proofs.Common.{arith}
 use Rattle.timer_core.proofs.Told.{counted, head_within, depth_room, push_kept, push_lists}
 use Rattle.timer_core.proofs.chains.Chains.push.Goals as goal
 

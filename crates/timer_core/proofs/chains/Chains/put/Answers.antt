@@ -1,4 +1,4 @@
-use Rattle.std.proofs.Common.{◌≡◌, ◌<◌, arith}
+use Rattle.std.proofs.Common.{arith}
 use Rattle.timer_core.proofs.Told.{counted, head_within, some_depth, next_within, put_kept, put_lists}
 use Rattle.timer_core.proofs.chains.Chains.put.Goals as goal
 

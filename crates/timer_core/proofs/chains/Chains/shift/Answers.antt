@@ -1,4 +1,4 @@
-use Rattle.std.proofs.Common.{◌≡◌, ◌<◌, arith}
+use Rattle.std.proofs.Common.{arith}
 use Rattle.timer_core.proofs.Told.{counted, head_within, some_depth, shifted_room, shifted_kept, shifted_lists}
 use Rattle.timer_core.proofs.chains.Chains.shift.Goals as goal
 
