@@ -88,7 +88,8 @@ fn settle(
     ensures room { heap_capacity heap.old ≤ heap_capacity heap.new }
 {
     if entry.moment > base {
-        chains.shift(list, home(base, entry.moment));
+        let to = home(base, entry.moment);
+        chains.shift(list, to);
         return;
     }
     heap.push(Reverse(entry)).unwrap();

@@ -8,8 +8,8 @@ use Rattle.timer_core.proofs.wheel.settle.Goals as goal
 
 pub returns-then-entry-base-clause-alike : goal.returns-then-entry-base-clause-alike
 returns-then-entry-base-clause-alike c =
-    moved_alike (heap_items c.args.heap.now) c.args.chains.now c.shift.new.self c.args.list c.args.base c.args.entry c.requires.used c.requires.list_in c.requires.front c.requires.spreading c.if-entry-base.true (subst (λ n. 0 < n) c.home.ensures.of c.home.ensures.some)
-    (subst (λ (n : ℕ). IsShifted c.args.list n c.args.chains.now c.shift.new.self) c.home.ensures.of c.shift.ensures)
+    moved_alike (heap_items c.args.heap.now) c.args.chains.now c.shift.new.self c.args.list c.args.base c.args.entry c.requires.used c.requires.list_in c.requires.front c.requires.spreading c.if-entry-base.true (subst (λ n. 0 < n) c.home-to.ensures.of c.home-to.ensures.some)
+    (subst (λ (n : ℕ). IsShifted c.args.list n c.args.chains.now c.shift.new.self) c.home-to.ensures.of c.shift.ensures)
 
 pub unwrap-requires : goal.unwrap-requires
 unwrap-requires c =
