@@ -75,15 +75,15 @@ idle_weight all weight (x ∷ xs) h =
 pub all_taken : (v : Log) → SawQueue v [] → 0 < v.passes → v.passes ≡ v.all → AreSameMarks v.registered v.taken
 all_taken v s any whole = record {
   same = λ weight.
-    let b = s.2.1 in
-    let k = (all_at (IsKnown s.2.0) s.0 s.1 v b.known s.3).shared any in
-    let total : sum_by passes_of s.0 ≡ v.passes = b.passes ∙ sym k ∙ sym whole in
-    let idle = idle_weight s.2.0 weight s.0 b.known in
-    let r = only_sum (registered_weight weight) s.0 s.1 v s.3 total idle.0 in
-    let t = only_sum (taken_weight weight) s.0 s.1 v s.3 total idle.1 in
-    let m = b.marks weight in
-    let none : sum_by weight [] ≡ 0 = refl in
-    omega (arith, r, t, m, none);
+      let b = s.2.1 in
+      let k = (all_at (IsKnown s.2.0) s.0 s.1 v b.known s.3).shared any in
+      let total : sum_by passes_of s.0 ≡ v.passes = b.passes ∙ sym k ∙ sym whole in
+      let idle = idle_weight s.2.0 weight s.0 b.known in
+      let r = only_sum (registered_weight weight) s.0 s.1 v s.3 total idle.0 in
+      let t = only_sum (taken_weight weight) s.0 s.1 v s.3 total idle.1 in
+      let m = b.marks weight in
+      let none : sum_by weight [] ≡ 0 = refl in
+      omega (arith, r, t, m, none);
 }
 
 -- ---- the steps
@@ -102,31 +102,43 @@ pub registers : (n number : ℕ) (v : Log) (mark : Mark) → 0 < v.passes → Pu
 registers n number v mark any items logs room h e =
     let w : Log = log (v.registered ++ mark ∷ []) v.taken v.passes v.all in
     let b = h.1 in
-    let k = (all_at (IsKnown h.0) logs number v b.known e).shared any in
-    (w, (h.0, record {
-      known = all_set (IsKnown h.0) logs number w b.known (known_held h.0 (v.registered ++ mark ∷ []) v.taken v.passes v.all any k);
-      passes = let s = sum_set passes_of logs number v w e in omega (arith, s, b.passes);
-      marks = λ weight.
-        let r = sum_set (registered_weight weight) logs number v w e in
-        let t = sum_set (taken_weight weight) logs number v w e in
-        let m = b.marks weight in
-        omega (arith, r, t, m, sum_by-append weight v.registered (mark ∷ []), sum_by-append weight items (mark ∷ []), sum_by-cons weight mark []);
-    }), refl)
+    let k = (all_at (IsKnown h.0) logs number v b.known e).shared any in (
+      w,
+      (
+        h.0,
+        record {
+          known = all_set (IsKnown h.0) logs number w b.known (known_held h.0 (v.registered ++ mark ∷ []) v.taken v.passes v.all any k);
+          passes = let s = sum_set passes_of logs number v w e in omega (arith, s, b.passes);
+          marks = λ weight.
+              let r = sum_set (registered_weight weight) logs number v w e in
+              let t = sum_set (taken_weight weight) logs number v w e in
+              let m = b.marks weight in
+              omega (arith, r, t, m, sum_by-append weight v.registered (mark ∷ []), sum_by-append weight items (mark ∷ []), sum_by-cons weight mark []);
+        },
+      ),
+      refl,
+    )
 
 pub takes : (number : ℕ) (v : Log) → 0 < v.passes → Pops IsBalanced number v (λ mark w. w ≡ log v.registered (v.taken ++ mark ∷ []) v.passes v.all)
 takes number v any mark items logs h e =
     let w : Log = log v.registered (v.taken ++ mark ∷ []) v.passes v.all in
     let b = h.1 in
-    let k = (all_at (IsKnown h.0) logs number v b.known e).shared any in
-    (w, (h.0, record {
-      known = all_set (IsKnown h.0) logs number w b.known (known_held h.0 v.registered (v.taken ++ mark ∷ []) v.passes v.all any k);
-      passes = let s = sum_set passes_of logs number v w e in omega (arith, s, b.passes);
-      marks = λ weight.
-        let r = sum_set (registered_weight weight) logs number v w e in
-        let t = sum_set (taken_weight weight) logs number v w e in
-        let m = b.marks weight in
-        omega (arith, r, t, m, sum_by-append weight v.taken (mark ∷ []), sum_by-cons weight mark items, sum_by-cons weight mark []);
-    }), refl)
+    let k = (all_at (IsKnown h.0) logs number v b.known e).shared any in (
+      w,
+      (
+        h.0,
+        record {
+          known = all_set (IsKnown h.0) logs number w b.known (known_held h.0 v.registered (v.taken ++ mark ∷ []) v.passes v.all any k);
+          passes = let s = sum_set passes_of logs number v w e in omega (arith, s, b.passes);
+          marks = λ weight.
+              let r = sum_set (registered_weight weight) logs number v w e in
+              let t = sum_set (taken_weight weight) logs number v w e in
+              let m = b.marks weight in
+              omega (arith, r, t, m, sum_by-append weight v.taken (mark ∷ []), sum_by-cons weight mark items, sum_by-cons weight mark []);
+        },
+      ),
+      refl,
+    )
 
 pub learns : (number : ℕ) (v : Log) → Learns IsBalanced number v (SawQueue v)
 learns number v items logs h e = (logs, number, h, e)
@@ -139,24 +151,28 @@ grows number v count any is items logs h e =
     let p : v.passes ≡ count = ap (λ (y : Log). y.passes) is in
     let a : v.all ≡ count = ap (λ (y : Log). y.all) is in
     let k = (all_at (IsKnown h.0) logs number v b.known e).shared (omega (arith, p, any)) in
-    let total : sum_by passes_of logs ≡ v.passes = omega (arith, b.passes, k, p, a) in
-    (h.0 + 1, record {
-      known = all_push (IsKnown (h.0 + 1)) (set logs number l) (log [] [] 0 0)
-      (grown_set h.0 logs number v l e total b.known (known_held (h.0 + 1) v.registered v.taken (v.passes + 1) (v.all + 1) (omega arith) (omega (arith, k)))) (known_none (h.0 + 1) 0);
-      passes = let s = sum_set passes_of logs number v l e in omega (arith, s, sum_push passes_of (set logs number l) (log [] [] 0 0), b.passes);
-      marks = λ weight.
-        let r = sum_set (registered_weight weight) logs number v l e in
-        let t = sum_set (taken_weight weight) logs number v l e in
-        let m = b.marks weight in
-        let z : sum_by weight [] ≡ 0 = refl in
-        omega (arith, r, t, m, z, sum_push (registered_weight weight) (set logs number l) (log [] [] 0 0), sum_push (taken_weight weight) (set logs number l) (log [] [] 0 0));
-    })
+    let total : sum_by passes_of logs ≡ v.passes = omega (arith, b.passes, k, p, a) in (
+      h.0 + 1,
+      record {
+        known = all_push (IsKnown (h.0 + 1)) (set logs number l) (log [] [] 0 0)
+            (grown_set h.0 logs number v l e total b.known (known_held (h.0 + 1) v.registered v.taken (v.passes + 1) (v.all + 1) (omega arith) (omega (arith, k)))) (known_none (h.0 + 1) 0);
+        passes = let s = sum_set passes_of logs number v l e in omega (arith, s, sum_push passes_of (set logs number l) (log [] [] 0 0), b.passes);
+        marks = λ weight.
+            let r = sum_set (registered_weight weight) logs number v l e in
+            let t = sum_set (taken_weight weight) logs number v l e in
+            let m = b.marks weight in
+            let z : sum_by weight [] ≡ 0 = refl in
+            omega (arith, r, t, m, z, sum_push (registered_weight weight) (set logs number l) (log [] [] 0 0), sum_push (taken_weight weight) (set logs number l) (log [] [] 0 0));
+      },
+    )
   where
     known_idle : (all more : ℕ) (v : Log) → v.passes ≡ 0 → IsKnown all v → IsKnown more v
     known_idle all more v z k = record { shared = λ l. absurd (omega (arith, l, z)); idle_registered = k.idle_registered; idle_taken = k.idle_taken }
+
     idle_all : (all : ℕ) (logs : List Log) → sum_by passes_of logs ≡ 0 → AllByRecursion (IsKnown all) logs → AllByRecursion (IsKnown (all + 1)) logs
     idle_all all [] z h = tt
     idle_all all (x ∷ xs) z h = let c = sum_by-cons passes_of x xs in (known_idle all (all + 1) x (omega (arith, z, c)) h.0, idle_all all xs (omega (arith, z, c)) h.1)
+
     grown_set : (all : ℕ) (logs : List Log) (i : ℕ) (v w : Log) → get_elem? logs i ≡ some v → sum_by passes_of logs ≡ v.passes → AllByRecursion (IsKnown all) logs → IsKnown (all + 1) w → AllByRecursion (IsKnown (all + 1)) (set logs i w)
     grown_set all [] i v w e z h k = tt
     grown_set all (x ∷ xs) zero v w e z h k =
@@ -174,18 +190,20 @@ shares number v any items logs h e =
     let l : Log = log v.registered v.taken (v.passes - 1) v.all in
     let r : Log = log [] [] 1 v.all in
     let b = h.1 in
-    let k = (all_at (IsKnown h.0) logs number v b.known e).shared (omega (arith, any)) in
-    (h.0, record {
-      known = all_push (IsKnown h.0) (set logs number l) (log [] [] 1 v.all)
-      (all_set (IsKnown h.0) logs number l b.known (known_held h.0 v.registered v.taken (v.passes - 1) v.all (omega (arith, any)) k)) (known_held h.0 [] [] 1 v.all (omega arith) k);
-      passes = let s = sum_set passes_of logs number v l e in omega (arith, s, any, sum_push passes_of (set logs number l) (log [] [] 1 v.all), b.passes);
-      marks = λ weight.
-        let x = sum_set (registered_weight weight) logs number v l e in
-        let t = sum_set (taken_weight weight) logs number v l e in
-        let m = b.marks weight in
-        let z : sum_by weight [] ≡ 0 = refl in
-        omega (arith, x, t, m, z, sum_push (registered_weight weight) (set logs number l) (log [] [] 1 v.all), sum_push (taken_weight weight) (set logs number l) (log [] [] 1 v.all));
-    })
+    let k = (all_at (IsKnown h.0) logs number v b.known e).shared (omega (arith, any)) in (
+      h.0,
+      record {
+        known = all_push (IsKnown h.0) (set logs number l) (log [] [] 1 v.all)
+            (all_set (IsKnown h.0) logs number l b.known (known_held h.0 v.registered v.taken (v.passes - 1) v.all (omega (arith, any)) k)) (known_held h.0 [] [] 1 v.all (omega arith) k);
+        passes = let s = sum_set passes_of logs number v l e in omega (arith, s, any, sum_push passes_of (set logs number l) (log [] [] 1 v.all), b.passes);
+        marks = λ weight.
+            let x = sum_set (registered_weight weight) logs number v l e in
+            let t = sum_set (taken_weight weight) logs number v l e in
+            let m = b.marks weight in
+            let z : sum_by weight [] ≡ 0 = refl in
+            omega (arith, x, t, m, z, sum_push (registered_weight weight) (set logs number l) (log [] [] 1 v.all), sum_push (taken_weight weight) (set logs number l) (log [] [] 1 v.all));
+      },
+    )
 
 -- two passes are one
 pub joins : (number : ℕ) (v : Log) (other : ℕ) (u : Log) → 0 < v.passes → 0 < u.passes → Merges IsBalanced number v other u (log (v.registered ++ u.registered) (v.taken ++ u.taken) (v.passes + u.passes) v.all) (log [] [] 0 0)
@@ -194,19 +212,21 @@ joins number v other u any more items logs h e apart f =
     let spent : Log = log [] [] 0 0 in
     let b = h.1 in
     let k = (all_at (IsKnown h.0) logs number v b.known e).shared any in
-    let first = all_set (IsKnown h.0) logs number w b.known (known_held h.0 (v.registered ++ u.registered) (v.taken ++ u.taken) (v.passes + u.passes) v.all (omega (arith, any)) k) in
-    (h.0, record {
-      known = all_set (IsKnown h.0) (set logs number w) other spent first (known_none h.0 0);
-      passes = let s = sum_set passes_of logs number v w e in let t = sum_set passes_of (set logs number w) other u spent f in omega (arith, s, t, b.passes);
-      marks = λ weight.
-        let r = sum_set (registered_weight weight) logs number v w e in
-        let t = sum_set (taken_weight weight) logs number v w e in
-        let x = sum_set (registered_weight weight) (set logs number w) other u spent f in
-        let y = sum_set (taken_weight weight) (set logs number w) other u spent f in
-        let m = b.marks weight in
-        let z : sum_by weight [] ≡ 0 = refl in
-        omega (arith, r, t, x, y, m, z, sum_by-append weight v.registered u.registered, sum_by-append weight v.taken u.taken);
-    })
+    let first = all_set (IsKnown h.0) logs number w b.known (known_held h.0 (v.registered ++ u.registered) (v.taken ++ u.taken) (v.passes + u.passes) v.all (omega (arith, any)) k) in (
+      h.0,
+      record {
+        known = all_set (IsKnown h.0) (set logs number w) other spent first (known_none h.0 0);
+        passes = let s = sum_set passes_of logs number v w e in let t = sum_set passes_of (set logs number w) other u spent f in omega (arith, s, t, b.passes);
+        marks = λ weight.
+            let r = sum_set (registered_weight weight) logs number v w e in
+            let t = sum_set (taken_weight weight) logs number v w e in
+            let x = sum_set (registered_weight weight) (set logs number w) other u spent f in
+            let y = sum_set (taken_weight weight) (set logs number w) other u spent f in
+            let m = b.marks weight in
+            let z : sum_by weight [] ≡ 0 = refl in
+            omega (arith, r, t, x, y, m, z, sum_by-append weight v.registered u.registered, sum_by-append weight v.taken u.taken);
+      },
+    )
 
 -- the same, at what a call answers
 pub none_taken : (result : Option Mark) (old new : Log) (all : ℕ) (P : Mark → Type 0) → 0 < old.passes → old.all ≡ all → MatchOption result ((new ≡ old) × SawQueue old []) P → IfNone result (new.passes ≡ all → AreSameMarks new.registered new.taken)

@@ -12,7 +12,7 @@ use Rattle.timer_core.specs.Marks.{added, due_mark, rest_after, first_moment, Is
 use Rattle.timer_core.specs.Wheel.{in_order, heap_entries, waiting_of, marks_of, IsHome, IsSettled, IsWheel, AreAlike, IsLeast, AreLater, IsFirstMoment, HoldTheSame}
 use Rattle.timer_core.proofs.Order.{first, none_taken}
 use Rattle.timer_core.proofs.Ordered.{all_weaker, all_in_order, ascending_in_order, marks_with}
-use Rattle.timer_core.proofs.Spread.{pass_alike, length_alike}
+use Rattle.timer_core.proofs.Alike.{pass_alike, length_alike}
 use Rattle.timer_core.proofs.Taken.{order_same, order_taken, order_added, due_first, rest_first, due_none, rest_none, sorted_marks, first_told, alike_order}
 
 below_test : (m n : ℕ) → m < n → ltb m n ≡ true

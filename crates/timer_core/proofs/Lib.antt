@@ -4,6 +4,8 @@ pub mod Shifted
 pub mod Told
 pub mod Placed
 pub mod Ordered
+pub mod Alike
 pub mod Spread
+pub mod Firsts
 pub mod Taken
 pub mod Kept

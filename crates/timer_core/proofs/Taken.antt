@@ -15,7 +15,8 @@ use Rattle.timer_core.specs.Entries.{mark_of}
 use Rattle.timer_core.specs.Marks.{comes_after, is_due, due_mark, rest_after, first_moment, IsSorted}
 use Rattle.timer_core.specs.Wheel.{is_after, with_entry, in_order, all_of, used_lists, heap_entries, waiting_of, by_entry, IsSettled, AreAlike, IsLeast, AreLater, IsFirstMoment}
 use Rattle.timer_core.proofs.Ordered.{AreAscending, all_weaker, all_append, all_left, all_in_order, ascending_in_order, sum_in_order, one_order, not_past, past_moment}
-use Rattle.timer_core.proofs.Spread.{all_permuted, all_entries, lists_later, later_alike}
+use Rattle.timer_core.proofs.Alike.{lists_later, later_alike}
+use Rattle.timer_core.proofs.Spread.{all_permuted, all_entries}
 use Rattle.std.proofs.lemmas.List.Sums.{sum_by-cons}
 
 -- ---- the heap's order is that of entries

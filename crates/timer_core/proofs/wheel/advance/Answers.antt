@@ -2,7 +2,7 @@ use Rattle.std.specs.BinaryHeap.{heap_items}
 use Rattle.std.proofs.Common.{ℕ, arith, subst, sym, List}
 use Rattle.timer_core.specs.declared.entry.Entry.{Entry}
 use Rattle.timer_core.specs.Wheel.{waiting_of, AreLater, IsSpreading, IsFirstMoment}
-use Rattle.timer_core.proofs.Spread.{none_waits, spreading_from, reached_some, lists_first}
+use Rattle.timer_core.proofs.Firsts.{none_waits, spreading_from, reached_some, lists_first}
 use Rattle.timer_core.proofs.Taken.{first_later}
 use Rattle.timer_core.proofs.wheel.advance.Goals as goal
 

@@ -1,7 +1,7 @@
 use Rattle.std.specs.BinaryHeap.{heap_items}
 use Rattle.std.proofs.Common.{ℕ, subst, sym}
 use Rattle.timer_core.specs.Wheel.{waiting_of, IsFirstMoment}
-use Rattle.timer_core.proofs.Spread.{lists_first, none_waits}
+use Rattle.timer_core.proofs.Firsts.{lists_first, none_waits}
 use Rattle.timer_core.proofs.Taken.{heap_first}
 use Rattle.timer_core.proofs.wheel.first_moment.Goals as goal
 

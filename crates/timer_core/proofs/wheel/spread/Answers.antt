@@ -1,7 +1,8 @@
 use Rattle.std.specs.BinaryHeap.{heap_items}
 use Rattle.std.proofs.Common.{arith}
 use Rattle.timer_core.specs.Wheel.{waiting_of}
-use Rattle.timer_core.proofs.Spread.{alike_then, length_alike}
+use Rattle.timer_core.proofs.Alike.{length_alike}
+use Rattle.timer_core.proofs.Spread.{alike_then}
 use Rattle.timer_core.proofs.wheel.spread.Goals as goal
 
 pub loop-entry-preserved : goal.loop-entry-preserved
