@@ -49,7 +49,8 @@ impl Frames {
     /// Adds a piece of any size to the stream. The frames that it makes whole can be taken by `next`.
     ///
     /// A fault is told by the piece that brings it and by each one after it, which adds nothing. Frames before it can
-    /// still be taken. After want of memory the piece was not taken, and the stream is as before.
+    /// still be taken. After want of memory the piece was not taken, and the stream is as before; it is never told in the
+    /// place of a fault that came already.
     pub fn feed(&mut self, piece: &[u8]) -> Result<(), FeedFault>
         ensures taken { Takes self.old piece.now result self.new }
         ensures named { IfErr result NamesNoMemory }
