@@ -2,6 +2,7 @@ pub mod Order
 pub mod Chained
 pub mod Shifted
 pub mod Told
+pub mod Noted
 pub mod Placed
 pub mod Ordered
 pub mod Alike

@@ -1,5 +1,6 @@
 -- Lists of entries whose nodes stand in one vector, linked by numbers. This project's own choice.
-use Rattle.std.specs.Prelude.{◌≡◌, ℕ, zero, suc, ◌+◌, ◌-◌, ◌<◌, ◌==◌, if◌then◌else◌, List, [], ◌∷◌, map, length, sum_by, get_or, set, min}
+use Rattle.std.specs.Prelude.{◌≡◌, ℕ, zero, suc, ◌+◌, ◌-◌, ◌<◌, ◌≤◌, ◌≢◌, ltb, false, ◌==◌, if◌then◌else◌, List, [], ◌∷◌, map, length, sum_by, get_or, set, min}
+use Rattle.bit_set.specs.Bits.{is_in}
 use Rattle.timer_core.specs.declared.entry.Entry.{Entry}
 use Rattle.timer_core.specs.declared.links.Node.{Node}
 use Rattle.timer_core.specs.declared.links.End.{End}
@@ -92,4 +93,21 @@ pub record AreChained (nodes : List Node) (ends : List End) : Type 0 where
   pub lists : (k : ℕ) → k < length ends → IsChain nodes k (end_at ends k).depth (end_at ends k).head
   pub whole : sum_by depth_of ends ≡ length nodes
   pub few : length nodes < 4294967296
-  pub many : length ends < 4294967296
+  pub many : length ends ≤ 4096
+
+-- whether a list has an entry was noted; list 0 isn't noted
+pub record IsNoted (list : ℕ) (end : End) (old new : List ℕ) : Type 0 where
+  pub noted : 0 < list → is_in new list ≡ ltb 0 end.depth
+  pub free : list ≡ 0 → is_in new 0 ≡ is_in old 0
+  pub others : (k : ℕ) → k ≢ list → is_in new k ≡ is_in old k
+
+-- the lists with an entry are noted, list 0 left out
+pub record AreNoted (ends : List End) (used : List ℕ) : Type 0 where
+  pub noted : (k : ℕ) → 0 < k → k < length ends → is_in used k ≡ ltb 0 (end_at ends k).depth
+  pub free : is_in used 0 ≡ false
+  pub past : (k : ℕ) → length ends ≤ k → is_in used k ≡ false
+
+-- what lists in one vector keep
+pub record IsTable (nodes : List Node) (ends : List End) (used : List ℕ) : Type 0 where
+  pub chained : AreChained nodes ends
+  pub noted : AreNoted ends used

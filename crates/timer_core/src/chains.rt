@@ -6,16 +6,24 @@ ghost use Rattle.timer_core.specs.Chains.{list_at, least_of, rest_of, IsShifted}
 ghost use Rattle.timer_core.specs.Wheel.{inserted, IsFirstList};
 
 use crate::entry::Entry;
-use crate::links::{End, Node, end_of, entry_at, least_from, push_node, put_entry, shift_node};
+use crate::links::{
+    End, Node, end_of, entry_at, least_from, mark, push_node, put_entry, shift_node,
+};
+use bit_set::BitSet;
 use rpc_base::NoMemory;
 use std::alloc::Global;
 use std::marker::Model;
+
+/// The most lists.
+const MOST: usize = 4_096;
 
 /// Lists of entries, by number. A contract sees them as a list of lists.
 #[derive(Drop)]
 pub struct Chains {
     nodes: Vec<Node>,
     ends: Vec<End>,
+    // The lists with an entry, list 0 left out.
+    used: BitSet,
 }
 
 impl Model for Chains {
@@ -24,11 +32,11 @@ impl Model for Chains {
 
     ghost Value = { List (List AnEntry) };
 
-    ghost use Rattle.timer_core.specs.Chains.{lists_of, AreChained};
+    ghost use Rattle.timer_core.specs.Chains.{lists_of, IsTable};
 
     ghost view = { λ c. lists_of c.nodes.items c.ends.items };
 
-    ghost invariant = { λ c. AreChained c.nodes.items c.ends.items };
+    ghost invariant = { λ c. IsTable c.nodes.items c.ends.items c.used };
 }
 
 impl Chains {
@@ -39,6 +47,7 @@ impl Chains {
         Chains {
             nodes: Vec::new(alloc),
             ends: Vec::new(alloc),
+            used: BitSet::new(),
         }
     }
 
@@ -49,12 +58,12 @@ impl Chains {
         self.ends.len()
     }
 
-    /// Puts an empty list behind the others. Where memory runs out, or there are 2^32 - 1 lists, nothing changes.
+    /// Puts an empty list behind the others. Where memory runs out, or there are 4,096 lists, nothing changes.
     pub fn push_list(&mut self) -> Result<(), NoMemory>
         ensures after { OnOk result (self.new ≡ self.old ++ [] ∷ []) }
         ensures failed { OnErr result (self.new ≡ self.old) }
     {
-        if self.ends.len() >= u32::MAX as usize {
+        if self.ends.len() >= MOST {
             return Err(NoMemory);
         }
         self.ends.push(End { head: 0, depth: 0 })?;
@@ -99,6 +108,8 @@ impl Chains {
         ensures { IsShifted from to self.old self.new }
     {
         shift_node(&mut self.nodes, &mut self.ends, from, to);
+        mark(&mut self.used, &self.ends, from);
+        mark(&mut self.used, &self.ends, to);
     }
 
     /// Puts an entry in front of a list, in a new node. Where memory runs out nothing changes.
@@ -108,6 +119,7 @@ impl Chains {
         ensures failed { OnErr result (self.new ≡ self.old) }
     {
         push_node(&mut self.nodes, &mut self.ends, list, entry)?;
+        mark(&mut self.used, &self.ends, list);
         Ok(())
     }
 
@@ -141,11 +153,9 @@ impl Chains {
     pub fn first_list(&self) -> Option<usize>
         ensures { MatchOption result ((k : ℕ) → 0 < k → list_at self.now k ≡ []) (λ k. IsFirstList self.now k) }
     {
-        for list in 1..self.count() {
-            if !self.is_vacant(list) {
-                return Some(list);
-            }
-        }
-        None
+        let Some(list) = self.used.first() else {
+            return None;
+        };
+        Some(list as usize)
     }
 }

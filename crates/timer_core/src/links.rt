@@ -1,9 +1,10 @@
 //! The nodes of lists in one vector, linked by numbers.
 
 ghost use Rattle.std.specs.Prelude.{◌≡◌, ◌≢◌, ◌+◌, ◌-◌, ◌<◌, ◌≤◌, ◌∷◌, [], ◌++◌, length, set, min, OnOk, OnErr};
-ghost use Rattle.timer_core.specs.Chains.{node_at, end_at, blank_node, least_at, unlinked, linked};
+ghost use Rattle.timer_core.specs.Chains.{node_at, end_at, blank_node, least_at, unlinked, linked, IsNoted};
 
 use crate::entry::Entry;
+use bit_set::BitSet;
 use rpc_base::NoMemory;
 
 /// An entry in a list.
@@ -155,4 +156,20 @@ pub fn put_entry(nodes: &mut Vec<Node>, ends: &Vec<End>, list: usize, entry: Ent
     let end = ends[list];
     let node = nodes[end.head as usize];
     nodes[end.head as usize] = linked_node(nodes, behind(node, end), list as u32, entry);
+}
+
+/// Notes whether a list has an entry. List 0 isn't noted.
+pub fn mark(used: &mut BitSet, ends: &Vec<End>, list: usize)
+    requires list_in { list < length ends.now.items }
+    requires few { length ends.now.items ≤ 4096 }
+    ensures { IsNoted list (end_at ends.now.items list) used.old used.new }
+{
+    if list == 0 {
+        return;
+    }
+    if end_of(ends, list).depth == 0 {
+        used.remove(list as u32);
+        return;
+    }
+    used.insert(list as u32);
 }

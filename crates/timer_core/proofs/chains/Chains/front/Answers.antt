@@ -9,7 +9,7 @@ pub entry_at-requires : goal.entry_at-requires
 entry_at-requires c =
     let f : c.args.list < length c.self.inside.ends.items = omega (arith, counted c.self.inside.nodes.items c.self.inside.ends.items c.args.self.now c.self.view_is, c.requires) in
     let e : c.end_of-end.result ≡ end_at c.self.inside.ends.items c.args.list = c.end_of-end.ensures in
-    rw e (head_within c.self.inside.nodes.items c.self.inside.ends.items c.args.self.now c.self.view_is c.args.list c.self.invariant f (subst (λ (z : End). 0 < z.depth) e (search rules)))
+    rw e (head_within c.self.inside.nodes.items c.self.inside.ends.items c.args.self.now c.self.view_is c.args.list c.self.invariant.chained f (subst (λ (z : End). 0 < z.depth) e (search rules)))
 
 pub returns : goal.returns
 returns c =

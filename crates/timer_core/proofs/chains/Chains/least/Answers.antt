@@ -8,10 +8,10 @@ pub least_from-requires : goal.least_from-requires
 least_from-requires c =
     let f : c.args.list < length c.self.inside.ends.items = omega (arith, counted c.self.inside.nodes.items c.self.inside.ends.items c.args.self.now c.self.view_is, c.requires) in
     let e : c.end_of-end.result ≡ end_at c.self.inside.ends.items c.args.list = c.end_of-end.ensures in
-    rw e (head_within c.self.inside.nodes.items c.self.inside.ends.items c.args.self.now c.self.view_is c.args.list c.self.invariant f)
+    rw e (head_within c.self.inside.nodes.items c.self.inside.ends.items c.args.self.now c.self.view_is c.args.list c.self.invariant.chained f)
 
 pub returns : goal.returns
 returns c =
     let f : c.args.list < length c.self.inside.ends.items = omega (arith, counted c.self.inside.nodes.items c.self.inside.ends.items c.args.self.now c.self.view_is, c.requires) in
     let e : c.end_of-end.result ≡ end_at c.self.inside.ends.items c.args.list = c.end_of-end.ensures in
-    c.least_from.ensures ∙ ap (λ (z : End). least_at c.self.inside.nodes.items z) e ∙ least_is c.self.inside.nodes.items c.self.inside.ends.items c.args.self.now c.self.view_is c.args.list c.self.invariant f
+    c.least_from.ensures ∙ ap (λ (z : End). least_at c.self.inside.nodes.items z) e ∙ least_is c.self.inside.nodes.items c.self.inside.ends.items c.args.self.now c.self.view_is c.args.list c.self.invariant.chained f
