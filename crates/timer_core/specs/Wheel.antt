@@ -11,9 +11,13 @@ use Rattle.timer_core.specs.Entries.{mark_of}
 use Rattle.timer_core.specs.Chains.{list_at, rest_of}
 use Rattle.timer_core.specs.Homes.{home_of}
 
--- whether an entry comes after another: by moment, by rank, by the order of adding, and then by what else it holds
+-- the same of entries of one moment and one rank: by the order of adding, and then by what else they hold
+abbrev pub is_added_after : Entry → Entry → Bool
+is_added_after e f = ltb f.order e.order || (f.order == e.order && (ltb f.id e.id || (f.id == e.id && ltb f.code e.code)))
+
+-- whether an entry comes after another: by moment, by rank, and then by the order of adding
 abbrev pub is_after : Entry → Entry → Bool
-is_after e f = ltb f.moment e.moment || (f.moment == e.moment && (ltb f.rank e.rank || (f.rank == e.rank && (ltb f.order e.order || (f.order == e.order && (ltb f.id e.id || (f.id == e.id && ltb f.code e.code)))))))
+is_after e f = ltb f.moment e.moment || (f.moment == e.moment && (ltb f.rank e.rank || (f.rank == e.rank && is_added_after e f)))
 
 -- the entries with one more, in front of those that come after it
 abbrev pub with_entry : Entry → List Entry → List Entry
@@ -47,10 +51,13 @@ waiting_of heap lists = heap_entries heap ++ all_of (used_lists lists)
 abbrev pub marks_of : List (Reverse Entry) → List (List Entry) → List Mark
 marks_of heap lists = map mark_of (in_order (waiting_of heap lists))
 
--- how the heap compares
+-- how the heap compares entries of one moment and one rank
+abbrev pub by_adding : Reverse Entry → Reverse Entry → Ordering
+by_adding x y = ordering_then (nat_cmp y.0.order x.0.order) (ordering_then (nat_cmp y.0.id x.0.id) (nat_cmp y.0.code x.0.code))
+
+-- and how it compares all
 abbrev pub by_entry : Reverse Entry → Reverse Entry → Ordering
-by_entry x y =
-    ordering_then (nat_cmp y.0.moment x.0.moment) (ordering_then (nat_cmp y.0.rank x.0.rank) (ordering_then (nat_cmp y.0.order x.0.order) (ordering_then (nat_cmp y.0.id x.0.id) (nat_cmp y.0.code x.0.code))))
+by_entry x y = ordering_then (nat_cmp y.0.moment x.0.moment) (ordering_then (nat_cmp y.0.rank x.0.rank) (by_adding x y))
 
 -- an entry stands in the list of its moment, which the base hasn't reached
 pub record IsHome (base list : ℕ) (e : Entry) : Type 0 where
