@@ -17,7 +17,7 @@ takes_again old piece (MetaPastBody n) h final = (same_still old piece (MetaPast
 takes_again old piece (Meta n m) h final = (same_still old piece (Meta n m) h, h)
 takes_again old piece (Compressed n) h final = (same_still old piece (Compressed n) h, h)
 takes_again old piece (Attachment n) h final = (same_still old piece (Attachment n) h, h)
-takes_again old piece Memory h final = absurd final
+takes_again old piece Memory h final = refl
 
 new_said : (old new : Stream) (piece : List ℕ) → old.fault ≡ None → new ≡ joined old.frames (frames old.at (old.rest ++ piece)) → new ≡ fed old piece
 unfolding fed

@@ -37,10 +37,10 @@ abbrev pub answer_of : Option FeedFault → Result (Unit {0}) FeedFault
 answer_of None = Ok tt
 answer_of (Some e) = Err e
 
--- the piece is taken, and the answer is the stream's fault, if it has one; after want of memory it isn't taken, and the stream has no fault
+-- the piece is taken, and the answer is the stream's fault, if it has one; after want of memory it isn't taken
 abbrev pub Takes : Stream → List ℕ → Result (Unit {0}) FeedFault → Stream → Type 0
 Takes old piece (Ok done) new = (new ≡ fed old piece) × (new.fault ≡ None)
-Takes old piece (Err Memory) new = (new ≡ old) × (old.fault ≡ None)
+Takes old piece (Err Memory) new = new ≡ old
 Takes old piece (Err e) new = (new ≡ fed old piece) × (new.fault ≡ Some e)
 
 -- the first of the frames was handed out, or there is none

@@ -1,4 +1,4 @@
-ghost use Rattle.std.specs.Prelude.{◌≡◌, IfErr};
+ghost use Rattle.std.specs.Prelude.{◌≡◌, IfErr, Err, None};
 ghost use Rattle.prpc_frames.specs.Stream.Reading.{begun};
 ghost use Rattle.prpc_frames.specs.Seen.{Takes, NamesNoMemory, HandsOut};
 
@@ -54,6 +54,9 @@ impl Frames {
     pub fn feed(&mut self, piece: &[u8]) -> Result<(), FeedFault>
         ensures taken { Takes self.old piece.now result self.new }
         ensures named { IfErr result NamesNoMemory }
+
+        // A fault that came is told again, and not want of memory.
+        ensures again { result ≡ Err FeedFault.Memory → self.old.fault ≡ None }
     {
         if let Some(fault) = self.fault {
             return Err(fault);
