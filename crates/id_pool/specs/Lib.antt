@@ -7,3 +7,4 @@ pub mod Ranges
 pub mod Vacancies
 pub mod ValueLends
 pub mod View
+pub mod Laws

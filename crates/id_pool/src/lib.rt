@@ -9,10 +9,12 @@ mod answers;
 mod cell;
 mod entry;
 mod id;
+mod law;
 mod pool;
 
 pub use answers::{Cancel, Collect, Destroy, Lock, Post, Refused, Unlock};
 pub use id::{make_id, slot_of, version_of};
+pub use law::gone_stays_gone;
 pub use pool::Pool;
 
 #[cfg(test)]

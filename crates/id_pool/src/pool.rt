@@ -1,16 +1,16 @@
 ghost use Rattle.std.specs.Option.{option_map};
-ghost use Rattle.std.specs.Prelude.{◌≡◌, ℕ, ◌+◌, ◌-◌, ◌^◌, ◌<◌, ◌≤◌, IfOk, IfSome, IsSome, Some, OnOk, OnErr, length, ltb, false, vec_len, vec_capacity};
-ghost use Rattle.std.specs.List.Sorted.{IsPartitionedBy};
+ghost use Rattle.std.specs.Prelude.{◌≡◌, ℕ, ◌+◌, ◌-◌, ◌^◌, ◌<◌, ◌≤◌, IfOk, IfSome, IsSome, Some, OnOk, OnErr, length};
 ghost use Rattle.id_pool.specs.Ids as ids;
 ghost use Rattle.id_pool.specs.Ranges as ranges;
 ghost use Rattle.id_pool.specs.Answers as answers;
-ghost use Rattle.id_pool.specs.Places.{place, falling, IsPutIn, IsRelisted};
-ghost use Rattle.id_pool.specs.Vacancies.{vacancies};
+ghost use Rattle.id_pool.specs.Places.{place};
+ghost use Rattle.id_pool.specs.Vacancies.{IsFilled, IsRelisted};
 
 use crate::answers::{Cancel, Collect, Destroy, Lock, Post, Refused, Unlock};
 use crate::cell::Cell;
 use crate::entry::MOST_VERSIONS;
 use crate::id::{make_id, slot_of, version_of};
+use bit_set::BitSet;
 use rpc_base::NoMemory;
 use std::alloc::Global;
 use std::marker::Model;
@@ -20,12 +20,12 @@ use std::marker::Model;
 pub struct Pool<T> {
     alloc: Global,
     slots: Vec<Cell<T>>,
-    // The numbers of the vacant slots, greatest first, with room for every slot.
-    vacant: Vec<u32>,
+    // The numbers of the vacant slots.
+    vacant: BitSet,
 }
 
 impl<T> Model for Pool<T> {
-    ghost use Rattle.std.specs.Prelude.{List, vec_capacity};
+    ghost use Rattle.std.specs.Prelude.{List};
     ghost use Rattle.id_pool.specs.Ranges.{Slot};
     ghost use Rattle.id_pool.specs.Vacancies.{IsListed};
 
@@ -33,7 +33,7 @@ impl<T> Model for Pool<T> {
 
     ghost view = { λ p. p.slots.items };
 
-    ghost invariant = { λ p. IsListed p.slots.items p.vacant.items (vec_capacity p.vacant) };
+    ghost invariant = { λ p. IsListed p.slots.items p.vacant };
 }
 
 impl<T: Drop> Pool<T> {
@@ -41,13 +41,12 @@ impl<T: Drop> Pool<T> {
     ghost use Rattle.std.specs.Option.{option_copied_mut};
     ghost use Rattle.id_pool.specs.ValueLends.{lends_value, lends_held};
 
-    /// A pool of so many slots, 1 to 4096, all vacant. It reserves room for its list of vacant slots.
+    /// A pool of so many slots, 1 to 4096, all vacant.
     pub fn open(alloc: Global, slots: u32) -> Result<Pool<T>, NoMemory>
         requires some { 1 ≤ slots }
         requires few { slots ≤ 4096 }
         ensures { IfOk result (λ pool. pool ≡ ranges.opened slots) }
     {
-        let vacant = falling(alloc, slots)?;
         let mut cells = Vec::with_capacity(alloc, slots as usize)?;
         while cells.len() < slots as usize {
             cells.push(Cell::new())?;
@@ -55,7 +54,7 @@ impl<T: Drop> Pool<T> {
         Ok(Pool {
             alloc,
             slots: cells,
-            vacant,
+            vacant: filled(slots),
         })
     }
 
@@ -75,9 +74,10 @@ impl<T: Drop> Pool<T> {
         if range < 1 || range > MOST_VERSIONS {
             return Err(Refused::BadRange(value));
         }
-        let Some(slot) = self.vacant.pop() else {
+        let Some(slot) = self.vacant.first() else {
             return Err(Refused::Full(value));
         };
+        self.vacant.remove(slot);
         let cell = &mut self.slots[slot as usize];
         let first = cell.take(range, value);
         Ok(make_id(slot, first))
@@ -200,9 +200,8 @@ impl<T: Drop> Pool<T> {
             return Cancel::Gone;
         };
         let cell = &mut self.slots[at];
-        let was_vacant = cell.is_vacant();
         let answer = cell.cancel(version_of(id));
-        relist(&mut self.vacant, was_vacant, cell.is_vacant(), at as u32);
+        relist(&mut self.vacant, cell.is_vacant(), at as u32);
         answer
     }
 
@@ -216,9 +215,8 @@ impl<T: Drop> Pool<T> {
             return Collect::Gone;
         };
         let cell = &mut self.slots[at];
-        let was_vacant = cell.is_vacant();
         let answer = cell.collect(version_of(first));
-        relist(&mut self.vacant, was_vacant, cell.is_vacant(), at as u32);
+        relist(&mut self.vacant, cell.is_vacant(), at as u32);
         answer
     }
 
@@ -235,40 +233,24 @@ impl<T: Drop> Pool<T> {
     }
 }
 
-/// The numbers below `count`, greatest first, with room for all of them.
-fn falling(alloc: Global, count: u32) -> Result<Vec<u32>, NoMemory>
-    ensures numbers { IfOk result (λ v. v.items ≡ falling 0 count) }
-    ensures room { IfOk result (λ v. count ≤ vec_capacity v) }
+/// The numbers below `count`.
+fn filled(count: u32) -> BitSet
+    requires { count ≤ 4096 }
+    ensures { IsFilled count result }
 {
-    let mut numbers = Vec::with_capacity(alloc, count as usize)?;
-    let mut at = count;
-    while at > 0 {
-        at -= 1;
-        numbers.push(at)?;
+    let mut numbers = BitSet::new();
+    for number in 0..count {
+        numbers.insert(number);
     }
-    Ok(numbers)
+    numbers
 }
 
-/// Puts the number of a slot into the list of vacant slots, if it became vacant.
-fn relist(vacant: &mut Vec<u32>, was_vacant: bool, is_vacant: bool, slot: u32)
-    requires room { was_vacant ≡ false → vec_len vacant.old < vec_capacity vacant.old }
-    requires falls { IsPartitionedBy (λ y. ltb slot y) vacant.old.items }
-    ensures put { IsRelisted was_vacant is_vacant slot vacant.old.items vacant.new.items }
-    ensures room { vec_capacity vacant.old ≤ vec_capacity vacant.new }
+/// Puts the number of a slot into the set of vacant slots, if it is vacant.
+fn relist(vacant: &mut BitSet, is_vacant: bool, slot: u32)
+    requires { slot < 4096 }
+    ensures { IsRelisted is_vacant slot vacant.old vacant.new }
 {
-    if is_vacant && !was_vacant {
-        put_in(vacant, slot);
+    if is_vacant {
+        vacant.insert(slot);
     }
-}
-
-/// Puts a number into a list that falls, which has room for it.
-fn put_in(numbers: &mut Vec<u32>, number: u32)
-    requires room { vec_len numbers.old < vec_capacity numbers.old }
-    requires falls { IsPartitionedBy (λ y. ltb number y) numbers.old.items }
-    ensures put { IsPutIn number numbers.old.items numbers.new.items }
-    ensures room { vec_capacity numbers.old ≤ vec_capacity numbers.new }
-{
-    let at = numbers.partition_point(|y| *y > number);
-    let put = numbers.insert(at, number);
-    prove!(put.is_ok());
 }

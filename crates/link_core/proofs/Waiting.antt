@@ -203,3 +203,25 @@ absent_if false id k (Some c) es others e h i =
 pub absent : (id : ℕ) (es : List (ℕ × Option ℕ)) → call_of id (waiting es) ≡ None → lookup (nat_eq id) (filter waits es) ≡ None
 absent id [] h = refl
 absent id (e ∷ es) h = absent_if (nat_eq id e.0) id e.0 e.1 (filter waits es) (waiting es) refl h (absent id es)
+
+all_wait_if : (k : ℕ) (o : Option ℕ) (es : List (ℕ × Option ℕ)) (others : List (ℕ × ℕ)) → length es ≡ length others → length (cond (is_some o) ((k, o) ∷ es) es) ≡ length (with_entry k o others)
+all_wait_if k None es others h = h
+all_wait_if k (Some c) es others h = ap suc h
+
+-- there are as many entries as ids that wait
+pub all_wait : (es : List (ℕ × Option ℕ)) → length (filter waits es) ≡ length (waiting es)
+all_wait [] = refl
+all_wait (e ∷ es) = all_wait_if e.0 e.1 (filter waits es) (waiting es) (all_wait es)
+
+-- an entry that loses its call stays
+pub kept_count : (id : ℕ) (es : List (ℕ × Option ℕ)) (x : Option ℕ) → lookup (nat_eq id) es ≡ Some x → length (insert_entry nat_eq es id None) ≡ length es
+kept_count id [] x h = absurd (cc)
+kept_count id (e ∷ es) x h = kept_if (nat_eq id e.0) e.0 e.1 es (insert_entry nat_eq es id None) x h (kept_count id es x)
+  where
+    kept_if : (b : Bool) (k : ℕ) (o : Option ℕ) (es put : List (ℕ × Option ℕ)) (x : Option ℕ) → cond b (Some o) (lookup (nat_eq id) es) ≡ Some x → (lookup (nat_eq id) es ≡ Some x → length put ≡ length es) → length (cond b ((k, None) ∷ es) ((k, o) ∷ put)) ≡ suc (length es)
+    kept_if true k o es put x h i = refl
+    kept_if false k o es put x h i = ap suc (i h)
+
+-- forgetting leaves no more entries
+pub fewer_left : (es : List (ℕ × Option ℕ)) → length (filter waits es) ≤ length es
+fewer_left es = let a = all_wait es in let f = few es in omega (arith, a, f)

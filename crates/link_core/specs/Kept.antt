@@ -1,5 +1,5 @@
 -- How the ids that wait are kept: in the order of adding, among ids that don't wait any more, which have no call. This project's own choice.
-use Rattle.std.specs.Prelude.{◌≡◌, ℕ, zero, suc, nat_eq, Bool, List, [], ◌∷◌, length, None, Some, is_some}
+use Rattle.std.specs.Prelude.{◌≡◌, ℕ, zero, suc, ◌+◌, ◌*◌, ◌≤◌, nat_eq, Bool, List, [], ◌∷◌, length, None, Some, is_some}
 use Rattle.std.specs.List.{IsDistinct}
 use Rattle.std.specs.Map.{keys_of}
 use Rattle.std.specs.declared.option.Option.{Option}
@@ -24,8 +24,9 @@ AreGone zero es = Unit {0}
 AreGone (suc n) [] = ⊥
 AreGone (suc n) (e ∷ es) = (e.1 ≡ None) × AreGone n es
 
--- so many ids wait, none of them among the first so many entries, and no id stands twice
+-- so many ids wait, none of them among the first so many entries, no id stands twice, and there are at most twice as many entries as ids that wait, and one more
 pub record AreKept (live front : ℕ) (entries : List (ℕ × Option ℕ)) : Type 0 where
   pub count : live ≡ length (waiting entries)
   pub gone : AreGone front entries
   pub once : IsDistinct nat_eq (keys_of entries)
+  pub few : length entries ≤ 2 * live + 1

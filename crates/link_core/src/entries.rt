@@ -1,4 +1,4 @@
-ghost use Rattle.std.specs.Prelude.{◌≡◌, ℕ, nat_eq, filter, slice_get, is_some, None, Some, IfSome, IfNone};
+ghost use Rattle.std.specs.Prelude.{◌≡◌, ℕ, ◌+◌, ◌*◌, ◌≤◌, nat_eq, filter, length, slice_get, is_some, None, Some, IfSome, IfNone};
 ghost use Rattle.std.specs.Option.{option_map};
 ghost use Rattle.indexmap.specs.IndexMap.{get, IsUnique};
 ghost use Rattle.link_core.specs.Outstanding.{call_of, without};
@@ -35,7 +35,7 @@ pub fn call_at(entries: &Entries, id: u64) -> Option<u32>
 }
 
 /// Takes out the call of an id, where it waits; else nothing changes. It takes no memory.
-#[tactic(auto, using(crate::proofs::Waiting::removed, crate::proofs::Waiting::gone_put))]
+#[tactic(auto, using(crate::proofs::Waiting::removed, crate::proofs::Waiting::gone_put, crate::proofs::Waiting::kept_count))]
 pub fn take_call(entries: &mut Entries, id: u64) -> Option<u32>
     requires once { IsUnique nat_eq entries.old }
     ensures answer { result ≡ call_of id (waiting entries.old.entries) }
@@ -43,6 +43,7 @@ pub fn take_call(entries: &mut Entries, id: u64) -> Option<u32>
     ensures after { IfSome result (λ _. waiting entries.new.entries ≡ without id (waiting entries.old.entries)) }
     ensures gone { (front : ℕ) → AreGone front entries.old.entries → AreGone front entries.new.entries }
     ensures once { IsUnique nat_eq entries.new }
+    ensures count { length entries.new.entries ≡ length entries.old.entries }
 {
     let call = call_at(entries, id)?;
     entries.insert(id, None).unwrap();
@@ -51,6 +52,7 @@ pub fn take_call(entries: &mut Entries, id: u64) -> Option<u32>
 
 /// Makes sure that an id that doesn't wait stands nowhere, and answers up to which place no id waits. It takes time in
 /// proportion to all entries where the id stands, and else none.
+#[tactic(auto, using(crate::proofs::Waiting::fewer_left))]
 pub fn forget(entries: &mut Entries, front: usize, id: u64) -> usize
     requires unknown { call_of id (waiting entries.old.entries) ≡ None }
     requires before { AreGone front entries.old.entries }
@@ -58,12 +60,30 @@ pub fn forget(entries: &mut Entries, front: usize, id: u64) -> usize
     ensures absent { get nat_eq entries.new id ≡ None }
     ensures gone { AreGone result entries.new.entries }
     ensures once { IsUnique nat_eq entries.new }
+    ensures fewer { length entries.new.entries ≤ length entries.old.entries }
 {
     if entries.get_index_of(&id).is_none() {
         return front;
     }
     clear_out(entries);
     0
+}
+
+/// Forgets the ids that don't wait any more, where they are more than half, and answers up to which place no id waits.
+#[tactic(auto, using(crate::proofs::Waiting::same, crate::proofs::Waiting::all_wait))]
+pub fn tidy(entries: &mut Entries, live: usize, front: usize) -> usize
+    requires before { AreGone front entries.old.entries }
+    requires count { live ≡ length (waiting entries.old.entries) }
+    ensures same { waiting entries.new.entries ≡ waiting entries.old.entries }
+    ensures gone { AreGone result entries.new.entries }
+    ensures once { IsUnique nat_eq entries.new }
+    ensures few { length entries.new.entries ≤ 2 * live + 1 }
+{
+    if live < entries.len() / 2 {
+        clear_out(entries);
+        return 0;
+    }
+    front
 }
 
 /// The place of the first id that waits, where no id before `front` does; the number of the entries where none waits.

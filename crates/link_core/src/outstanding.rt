@@ -2,7 +2,7 @@ ghost use Rattle.std.specs.Prelude.{◌≡◌, [], ◌∷◌, ◌++◌, false, d
 ghost use Rattle.std.specs.Option.{option_map};
 ghost use Rattle.link_core.specs.Outstanding.{call_of, is_outstanding, without, first, IsEachOnce};
 
-use crate::entries::{Entries, call_at, clear_out, first_waiting, forget, take_call};
+use crate::entries::{Entries, call_at, first_waiting, forget, take_call, tidy};
 use indexmap::IndexMap;
 use rpc_base::NoMemory;
 use std::alloc::Global;
@@ -12,11 +12,12 @@ use std::marker::Model;
 /// adding.
 ///
 /// Each call takes constant time over a long run of calls, but for adding an id that was taken out a short time ago,
-/// which takes time in proportion to the ids that wait.
+/// which takes time in proportion to the ids that wait. The memory is in proportion to the most ids that waited at once.
 #[derive(Drop)]
 pub struct Outstanding {
     entries: Entries,
-    /// How many ids wait. Where they are less than half of the entries, the other entries are forgotten.
+    /// How many ids wait. There are at most twice as many entries, and one more: beyond that the ids that don't wait any
+    /// more are forgotten.
     live: usize,
     /// No id before this place waits.
     front: usize,
@@ -83,7 +84,7 @@ impl Outstanding {
     {
         let call = take_call(&mut self.entries, id)?;
         self.live -= 1;
-        self.tidy();
+        self.front = tidy(&mut self.entries, self.live, self.front);
         Some(call)
     }
 
@@ -111,16 +112,5 @@ impl Outstanding {
         self.front = first_waiting(&self.entries, self.front);
         let (id, _) = self.entries.get_index(self.front)?;
         Some(*id)
-    }
-
-    /// Forgets the ids that don't wait any more, where they are more than half.
-    #[tactic(auto, using(crate::proofs::Waiting::same))]
-    fn tidy(&mut self)
-        ensures { self.new ≡ self.old }
-    {
-        if self.live < self.entries.len() / 2 {
-            clear_out(&mut self.entries);
-            self.front = 0;
-        }
     }
 }

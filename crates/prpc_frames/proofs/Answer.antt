@@ -10,14 +10,14 @@ unfolding fed
 same_still old piece e h = sym (ap (λ (o : Option FeedFault). fed_after o old piece) h)
 
 -- a fault is told again, and nothing changes
-pub takes_again : (old : Stream) (piece : List ℕ) (e : FeedFault) → old.fault ≡ Some e → Takes old piece (Err e) old
-takes_again old piece (Magic n) h = (same_still old piece (Magic n) h, h)
-takes_again old piece (TooLarge n) h = (same_still old piece (TooLarge n) h, h)
-takes_again old piece (MetaPastBody n) h = (same_still old piece (MetaPastBody n) h, h)
-takes_again old piece (Meta n m) h = (same_still old piece (Meta n m) h, h)
-takes_again old piece (Compressed n) h = (same_still old piece (Compressed n) h, h)
-takes_again old piece (Attachment n) h = (same_still old piece (Attachment n) h, h)
-takes_again old piece Memory h = refl
+pub takes_again : (old : Stream) (piece : List ℕ) (e : FeedFault) → old.fault ≡ Some e → IsFinal e → Takes old piece (Err e) old
+takes_again old piece (Magic n) h final = (same_still old piece (Magic n) h, h)
+takes_again old piece (TooLarge n) h final = (same_still old piece (TooLarge n) h, h)
+takes_again old piece (MetaPastBody n) h final = (same_still old piece (MetaPastBody n) h, h)
+takes_again old piece (Meta n m) h final = (same_still old piece (Meta n m) h, h)
+takes_again old piece (Compressed n) h final = (same_still old piece (Compressed n) h, h)
+takes_again old piece (Attachment n) h final = (same_still old piece (Attachment n) h, h)
+takes_again old piece Memory h final = refl
 
 new_said : (old new : Stream) (piece : List ℕ) → old.fault ≡ None → new ≡ joined old.frames (frames old.at (old.rest ++ piece)) → new ≡ fed old piece
 unfolding fed

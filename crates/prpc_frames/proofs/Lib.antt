@@ -6,3 +6,4 @@ pub mod Small
 pub mod Spelled
 pub mod Steps
 pub mod Taken
+pub mod Begun

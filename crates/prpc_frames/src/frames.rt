@@ -1,4 +1,4 @@
-ghost use Rattle.std.specs.Prelude.{◌≡◌, IfErr};
+ghost use Rattle.std.specs.Prelude.{◌≡◌, IfErr, Err, None};
 ghost use Rattle.prpc_frames.specs.Stream.Reading.{begun};
 ghost use Rattle.prpc_frames.specs.Seen.{Takes, NamesNoMemory, HandsOut};
 
@@ -49,10 +49,14 @@ impl Frames {
     /// Adds a piece of any size to the stream. The frames that it makes whole can be taken by `next`.
     ///
     /// A fault is told by the piece that brings it and by each one after it, which adds nothing. Frames before it can
-    /// still be taken. After want of memory the piece was not taken, and the stream is as before.
+    /// still be taken. After want of memory the piece was not taken, and the stream is as before; it is never told in the
+    /// place of a fault that came already.
     pub fn feed(&mut self, piece: &[u8]) -> Result<(), FeedFault>
         ensures taken { Takes self.old piece.now result self.new }
         ensures named { IfErr result NamesNoMemory }
+
+        // A fault that came is told again, and not want of memory.
+        ensures again { result ≡ Err FeedFault.Memory → self.old.fault ≡ None }
     {
         if let Some(fault) = self.fault {
             return Err(fault);

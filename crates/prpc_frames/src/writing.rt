@@ -1,13 +1,14 @@
 ghost use Rattle.std.specs.Prelude.{◌≡◌, ◌++◌, ◌↔◌, ◌≤◌, ◌-◌, ◌^◌, min, length, pos, IfOk, IfSome, OnOk, OnErr, IsTrue};
 ghost use Rattle.rpc_meta.specs.Meta.{meta_bytes};
-ghost use Rattle.prpc_frames.specs.Stream.Spelling.{number_bytes, body_bytes, frame_bytes, IsTold, IsFitting};
+ghost use Rattle.rpc_meta.specs.Appending.{Begins};
+ghost use Rattle.prpc_frames.specs.Stream.Spelling.{number_bytes, header_bytes, body_bytes, frame_bytes, IsTold, IsFitting};
 
 use crate::frame::Frame;
-use crate::header::{MAGIC, MOST};
+use crate::header::{HEADER, MAGIC, MOST};
 use byteorder::{BigEndian, ByteOrder};
 use rpc_base::NoMemory;
 use rpc_meta::{Meta, is_writable, spelled_len, write_meta};
-use std::alloc::{AllocError, Global};
+use std::alloc::AllocError;
 
 /// Whether the meta tells the size of an attachment of so many bytes. It may be silent where there is none.
 fn tells_attachment(meta: &Meta, len: usize) -> bool
@@ -50,47 +51,75 @@ pub fn frame_fits(frame: &Frame) -> bool
         && is_writable(&frame.meta)
 }
 
+/// How many bytes the meta has, where the frame fits.
+#[tactic(auto, unfolding(crate::specs::Stream::Spelling::body_bytes))]
+fn meta_len(frame: &Frame) -> u32
+    requires { IsFitting frame.now }
+    ensures { result ≡ length (meta_bytes frame.now.meta) }
+{
+    spelled_len(&frame.meta) as u32
+}
+
+/// How many bytes the body has, where the frame fits.
+fn fitting_len(frame: &Frame) -> u32
+    requires { IsFitting frame.now }
+    ensures is { result ≡ length (body_bytes frame.now) }
+    ensures most { result ≤ 16777216 }
+{
+    body_len(frame) as u32
+}
+
 /// Appends a number of 32 bits in network order.
 #[tactic(auto, unfolding(crate::specs::Stream::Spelling::number_bytes))]
 fn put_number(to: &mut Vec<u8>, number: u32) -> Result<(), AllocError>
-    ensures { OnOk result (to.new.items ≡ to.old.items ++ number_bytes number) }
+    ensures written { OnOk result (to.new.items ≡ to.old.items ++ number_bytes number) }
+    ensures begun { OnErr result (Begins to.old.items to.new.items) }
 {
     let mut bytes = [0u8; 4];
     BigEndian::write_u32(&mut bytes, number);
     to.extend_from_slice(&bytes)
 }
 
-/// The meta, the payload and the attachment.
-#[tactic(auto, unfolding(crate::specs::Stream::Spelling::body_bytes))]
-fn spell_body(alloc: Global, frame: &Frame) -> Result<(Vec<u8>, usize), NoMemory>
-    requires { IsFitting frame.now }
-    ensures body { IfOk result (λ b. b.0.items ≡ body_bytes frame.now) }
-    ensures meta { IfOk result (λ b. b.1 ≡ length (meta_bytes frame.now.meta)) }
-    ensures within { IfOk result (λ b. b.1 ≤ length (body_bytes frame.now)) }
+/// The header: the magic, and how many bytes the body and the meta have.
+#[tactic(auto, using(crate::proofs::Begun::begun_past))]
+fn put_header(to: &mut Vec<u8>, body: u32, meta: u32) -> Result<(), NoMemory>
+    ensures written { OnOk result (to.new.items ≡ to.old.items ++ header_bytes body meta) }
+    ensures begun { OnErr result (Begins to.old.items to.new.items) }
 {
-    let mut body = Vec::new(alloc);
-    write_meta(&frame.meta, &mut body)?;
-    let meta = body.len();
-    body.extend_from_slice(frame.payload.list())?;
-    body.extend_from_slice(frame.attachment.list())?;
-    Ok((body, meta))
+    to.extend_from_slice(&MAGIC)?;
+    put_number(to, body)?;
+    put_number(to, meta)?;
+    Ok(())
+}
+
+/// The meta, the payload and the attachment.
+#[tactic(auto, using(crate::proofs::Begun::begun_past), unfolding(crate::specs::Stream::Spelling::body_bytes))]
+fn put_body(to: &mut Vec<u8>, frame: &Frame) -> Result<(), NoMemory>
+    requires { IsFitting frame.now }
+    ensures written { OnOk result (to.new.items ≡ to.old.items ++ body_bytes frame.now) }
+    ensures begun { OnErr result (Begins to.old.items to.new.items) }
+{
+    write_meta(&frame.meta, to)?;
+    to.extend_from_slice(frame.payload.list())?;
+    to.extend_from_slice(frame.attachment.list())?;
+    Ok(())
 }
 
 /// The header and the body.
-#[tactic(auto, unfolding(crate::specs::Stream::Spelling::frame_bytes))]
-fn spell_frame(alloc: Global, frame: &Frame) -> Result<Vec<u8>, NoMemory>
+#[tactic(auto, using(crate::proofs::Begun::begun_past), unfolding(crate::specs::Stream::Spelling::frame_bytes))]
+fn put_frame(to: &mut Vec<u8>, frame: &Frame) -> Result<(), NoMemory>
     requires { IsFitting frame.now }
-    ensures { IfOk result (λ v. v.items ≡ frame_bytes frame.now) }
+    ensures written { OnOk result (to.new.items ≡ to.old.items ++ frame_bytes frame.now) }
+    ensures begun { OnErr result (Begins to.old.items to.new.items) }
 {
-    let (body, meta) = spell_body(alloc, frame)?;
-    let mut bytes = Vec::from_slice(alloc, &MAGIC)?;
-    put_number(&mut bytes, body.len() as u32)?;
-    put_number(&mut bytes, meta as u32)?;
-    bytes.extend_from_slice(&body)?;
-    Ok(bytes)
+    let body = fitting_len(frame);
+    to.reserve(HEADER + body as usize)?;
+    put_header(to, body, meta_len(frame))?;
+    put_body(to, frame)?;
+    Ok(())
 }
 
-/// Appends the one spelling of this frame. After want of memory `to` is as before.
+/// Appends the one spelling of this frame. It makes room for all of it at once. After want of memory `to` is as before.
 ///
 /// The condition, which `frame_fits` tests, is what makes the spelling one that `Frames` hands out as that frame.
 pub fn write_frame(frame: &Frame, to: &mut Vec<u8>) -> Result<(), NoMemory>
@@ -98,7 +127,12 @@ pub fn write_frame(frame: &Frame, to: &mut Vec<u8>) -> Result<(), NoMemory>
     ensures written { OnOk result (to.new.items ≡ to.old.items ++ frame_bytes frame.now) }
     ensures kept { OnErr result (to.new.items ≡ to.old.items) }
 {
-    let bytes = spell_frame(*to.allocator(), frame)?;
-    to.extend_from_slice(&bytes)?;
-    Ok(())
+    let before = to.len();
+    match put_frame(to, frame) {
+        Ok(()) => Ok(()),
+        Err(NoMemory) => {
+            to.truncate(before);
+            Err(NoMemory)
+        }
+    }
 }

@@ -1,3 +1,4 @@
 pub mod Appending
 pub mod Meta
 pub mod Seen
+pub mod Parts

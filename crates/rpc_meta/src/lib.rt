@@ -9,6 +9,7 @@ mod fault;
 mod fields;
 mod law;
 mod meta;
+mod parts;
 mod reading;
 mod size;
 mod text;

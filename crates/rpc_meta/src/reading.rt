@@ -1,15 +1,16 @@
-ghost use Rattle.std.specs.Prelude.{◌≡◌, ◌<◌, ◌≤◌, ◌^◌, length};
+ghost use Rattle.std.specs.Prelude.{◌≡◌, ◌<◌, ◌≤◌, ◌^◌, length, Err, IfOk, IsOk};
 ghost use Rattle.rpc_meta.specs.Meta.{meta};
 ghost use Rattle.rpc_meta.specs.Meta.Reading.{int32 as low_int, name, no_request, no_response, no_meta, request_field, response_field, meta_field, request_at, response_at, meta_text, meta_number};
 ghost use Rattle.rpc_meta.specs.Meta.Wire.{said};
 ghost use Rattle.rpc_meta.specs.Meta.Answer.{Gives, Reads};
 ghost use Rattle.rpc_meta.specs.Seen.{field_seen, IsWithin};
+ghost use Rattle.rpc_meta.specs.Parts.{request_seen, response_seen, meta_seen};
 
 use crate::fault::MetaFault;
 use crate::fields::{Field, FieldReader, Value};
-use crate::meta::{Meta, RequestMeta, ResponseMeta};
+use crate::meta::Meta;
+use crate::parts::{MetaParts, RequestParts, ResponseParts};
 use crate::text::is_text;
-use rpc_base::Bytes;
 use std::alloc::Global;
 
 /// The low 32 bits in two's complement.
@@ -19,33 +20,28 @@ fn int32(bits: u64) -> i32
     ((bits % (1 << 32)) as u32).cast_signed()
 }
 
-/// Reads a service or method name in a field whose key stands at `at`.
+/// A service or method name in a field whose key stands at `at`.
 #[tactic(auto, unfolding(crate::specs::Meta::Reading::name))]
-fn read_name(alloc: Global, at: u32, bytes: &[u8]) -> Result<Bytes, MetaFault>
-    ensures { Gives result (name at bytes.now) }
+fn read_name(at: u32, bytes: &[u8]) -> Result<&[u8], MetaFault>
+    ensures { Reads (λ b. b.now) result (name at bytes.now) }
 {
     if !is_text(bytes) {
         return Err(MetaFault::BadText(at));
     }
-    Ok(Bytes::of(Vec::from_slice(alloc, bytes)?))
+    Ok(bytes)
 }
 
 /// The request that this field makes of the one before.
 #[tactic(auto, unfolding(crate::specs::Meta::Reading::request_says))]
-fn with_request_field(
-    alloc: Global,
-    mut request: RequestMeta,
-    field: &Field<'_>,
-) -> Result<RequestMeta, MetaFault>
-    ensures { Gives result (request_field request (field_seen field.now)) }
+fn with_request_field<'a>(
+    mut request: RequestParts<'a>,
+    field: Field<'a>,
+) -> Result<RequestParts<'a>, MetaFault>
+    ensures { Reads request_seen result (request_field (request_seen request.entry) (field_seen field.entry)) }
 {
     match field.value {
-        Value::Text(text) if field.number == 1 => request.service = read_name(
-            alloc, field.at, text,
-        )?,
-        Value::Text(text) if field.number == 2 => request.method = read_name(
-            alloc, field.at, text,
-        )?,
+        Value::Text(text) if field.number == 1 => request.service = read_name(field.at, text)?,
+        Value::Text(text) if field.number == 2 => request.method = read_name(field.at, text)?,
         Value::Number(bits) if field.number == 3 => request.log_id = Some(bits.cast_signed()),
         _ => {}
     }
@@ -54,86 +50,66 @@ fn with_request_field(
 
 /// The response that this field makes of the one before.
 #[tactic(auto, unfolding(crate::specs::Meta::Reading::response_says))]
-fn with_response_field(
-    alloc: Global,
-    mut response: ResponseMeta,
-    field: &Field<'_>,
-) -> Result<ResponseMeta, MetaFault>
-    ensures { Gives result (response_field response (field_seen field.now)) }
+fn with_response_field<'a>(
+    mut response: ResponseParts<'a>,
+    field: Field<'a>,
+) -> Result<ResponseParts<'a>, MetaFault>
+    ensures { Reads response_seen result (response_field (response_seen response.entry) (field_seen field.entry)) }
 {
     match field.value {
         Value::Number(bits) if field.number == 1 => response.code = Some(int32(bits)),
-        Value::Text(text) if field.number == 2 => {
-            response.text = Some(Bytes::of(Vec::from_slice(alloc, text)?));
-        }
+        Value::Text(text) if field.number == 2 => response.text = Some(text),
         _ => {}
     }
     Ok(response)
 }
 
-/// A request that says nothing yet.
-fn empty_request(alloc: Global) -> RequestMeta
-    ensures { result ≡ no_request }
-{
-    RequestMeta {
-        service: Bytes::of(Vec::new(alloc)),
-        method: Bytes::of(Vec::new(alloc)),
-        log_id: None,
-    }
-}
-
 /// The request of these fields, merged into the one before.
-fn read_request(
-    alloc: Global,
-    mut fields: FieldReader<'_>,
-    mut request: RequestMeta,
-) -> Result<RequestMeta, MetaFault>
-    ensures { Gives result (said request_field request fields.entry.list fields.entry.fault) }
+fn read_request<'a>(
+    mut fields: FieldReader<'a>,
+    mut request: RequestParts<'a>,
+) -> Result<RequestParts<'a>, MetaFault>
+    ensures { Reads request_seen result (said request_field (request_seen request.entry) fields.entry.list fields.entry.fault) }
 {
     'fields: while let Some(field) = fields.next()? {
-        request = with_request_field(alloc, request, &field)?;
+        request = with_request_field(request, field)?;
     }
     Ok(request)
 }
 
 /// The response of these fields, merged into the one before.
-fn read_response(
-    alloc: Global,
-    mut fields: FieldReader<'_>,
-    mut response: ResponseMeta,
-) -> Result<ResponseMeta, MetaFault>
-    ensures { Gives result (said response_field response fields.entry.list fields.entry.fault) }
+fn read_response<'a>(
+    mut fields: FieldReader<'a>,
+    mut response: ResponseParts<'a>,
+) -> Result<ResponseParts<'a>, MetaFault>
+    ensures { Reads response_seen result (said response_field (response_seen response.entry) fields.entry.list fields.entry.fault) }
 {
     'fields: while let Some(field) = fields.next()? {
-        response = with_response_field(alloc, response, &field)?;
+        response = with_response_field(response, field)?;
     }
     Ok(response)
 }
 
 /// The meta that a field of type 2 makes of the one before. Its bytes end at the place `stop`.
 #[tactic(auto, unfolding(crate::specs::Meta::Reading::meta_text, crate::specs::Meta::Reading::request_at, crate::specs::Meta::Reading::response_at))]
-fn with_text(
-    alloc: Global,
-    mut meta: Meta,
+fn with_text<'a>(
+    mut meta: MetaParts<'a>,
     stop: u32,
     number: u32,
-    text: &[u8],
-) -> Result<Meta, MetaFault>
+    text: &'a [u8],
+) -> Result<MetaParts<'a>, MetaFault>
     requires { length text.now ≤ stop }
-    ensures { Gives result (meta_text meta stop number text.now) }
+    ensures { Reads meta_seen result (meta_text (meta_seen meta.entry) stop number text.now) }
 {
     match number {
         1 => {
-            let before = meta.request.take().unwrap_or(empty_request(alloc));
-            let request = read_request(alloc, FieldReader::of(stop, text), before)?;
+            let before = meta.request.unwrap_or(RequestParts::empty());
+            let request = read_request(FieldReader::of(stop, text), before)?;
             meta.request = Some(request);
         }
         2 => {
-            let before = meta.response.take().unwrap_or(ResponseMeta {
-                code: None,
-                text: None,
-            });
-            let response = read_response(alloc, FieldReader::of(stop, text), before)?;
+            let before = meta.response.unwrap_or(ResponseParts::empty());
+            let response = read_response(FieldReader::of(stop, text), before)?;
             meta.response = Some(response);
         }
         _ => {}
@@ -143,8 +119,13 @@ fn with_text(
 
 /// The meta that a field of type 0, whose key stands at `at`, makes of the one before.
 #[tactic(auto, unfolding(crate::specs::Meta::Reading::meta_number))]
-fn with_number(mut meta: Meta, at: u32, number: u32, bits: u64) -> Result<Meta, MetaFault>
-    ensures { Reads (λ m. m) result (meta_number meta at number bits) }
+fn with_number<'a>(
+    mut meta: MetaParts<'a>,
+    at: u32,
+    number: u32,
+    bits: u64,
+) -> Result<MetaParts<'a>, MetaFault>
+    ensures { Reads meta_seen result (meta_number (meta_seen meta.entry) at number bits) }
 {
     match number {
         3 => meta.compress = Some(int32(bits)),
@@ -163,39 +144,54 @@ fn with_number(mut meta: Meta, at: u32, number: u32, bits: u64) -> Result<Meta, 
 
 /// The meta that this field makes of the one before.
 #[tactic(auto, unfolding(crate::specs::Meta::Reading::meta_says))]
-fn with_meta_field(alloc: Global, meta: Meta, field: &Field<'_>) -> Result<Meta, MetaFault>
-    requires { IsWithin field.now }
-    ensures { Gives result (meta_field meta (field_seen field.now)) }
+fn with_meta_field<'a>(meta: MetaParts<'a>, field: Field<'a>) -> Result<MetaParts<'a>, MetaFault>
+    requires { IsWithin field }
+    ensures { Reads meta_seen result (meta_field (meta_seen meta.entry) (field_seen field.entry)) }
 {
     match field.value {
-        Value::Text(text) => with_text(alloc, meta, field.stop, field.number, text),
+        Value::Text(text) => with_text(meta, field.stop, field.number, text),
         Value::Number(bits) => with_number(meta, field.at, field.number, bits),
         Value::Fixed => Ok(meta),
     }
 }
 
-/// The meta of these fields.
-fn read_fields(alloc: Global, mut fields: FieldReader<'_>) -> Result<Meta, MetaFault>
-    ensures { Gives result (said meta_field no_meta fields.entry.list fields.entry.fault) }
+/// The meta of these fields, merged into the one before.
+fn read_fields<'a>(
+    mut fields: FieldReader<'a>,
+    mut meta: MetaParts<'a>,
+) -> Result<MetaParts<'a>, MetaFault>
+    ensures { Reads meta_seen result (said meta_field (meta_seen meta.entry) fields.entry.list fields.entry.fault) }
 {
-    let mut meta = Meta {
-        request: None,
-        response: None,
-        compress: None,
-        correlation: None,
-        attachment: None,
-    };
     'fields: while let Some(field) = fields.next()? {
-        meta = with_meta_field(alloc, meta, &field)?;
+        meta = with_meta_field(meta, field)?;
     }
     Ok(meta)
 }
 
-/// What the bytes say by the meta grammar, or their first fault. Want of memory may be answered in place of either.
+/// What the bytes say by the meta grammar, or their first fault. It takes no memory.
 #[tactic(auto, unfolding(crate::specs::Meta::Reading::meta))]
+fn read_parts(bytes: &[u8]) -> Result<MetaParts<'_>, MetaFault>
+    requires { length bytes.now < 2 ^ 32 }
+    ensures { Reads meta_seen result (meta bytes.now) }
+{
+    read_fields(
+        FieldReader::of(bytes.len() as u32, bytes),
+        MetaParts::empty(),
+    )
+}
+
+/// What the bytes say by the meta grammar, or their first fault. Want of memory may be answered in place of what they
+/// say, and never in place of a fault.
 pub fn read_meta(alloc: Global, bytes: &[u8]) -> Result<Meta, MetaFault>
     requires { length bytes.now < 2 ^ 32 }
-    ensures { Gives result (meta bytes.now) }
+    ensures read { Gives result (meta bytes.now) }
+    ensures memory { result ≡ Err MetaFault.Memory → IsOk (meta bytes.now) }
 {
-    read_fields(alloc, FieldReader::of(bytes.len() as u32, bytes))
+    match read_parts(bytes) {
+        Ok(parts) => match parts.copied(alloc) {
+            Ok(meta) => Ok(meta),
+            Err(_) => Err(MetaFault::Memory),
+        },
+        Err(fault) => Err(fault),
+    }
 }

@@ -1,2 +1,12 @@
 pub mod Order
+pub mod Chained
+pub mod Shifted
+pub mod Told
+pub mod Noted
+pub mod Placed
+pub mod Ordered
+pub mod Alike
+pub mod Spread
+pub mod Firsts
+pub mod Taken
 pub mod Kept

@@ -1,3 +1,6 @@
+pub mod Chains
+pub mod Entries
+pub mod Homes
 pub mod Laws
 pub mod Marks
-pub mod Places
+pub mod Wheel

@@ -4,9 +4,14 @@
 //! they will be taken, and not how they are kept.
 #![tactic(auto)]
 
+mod chains;
+mod entry;
+mod home;
 mod laws;
+mod links;
 mod mark;
 mod marks;
+mod wheel;
 
 pub use laws::{equal_marks_keep_their_order, marks_are_kept, marks_are_sorted};
 pub use mark::Mark;

@@ -13,6 +13,10 @@ use Rattle.prpc_frames.specs.Stream.Reading.{magic}
 unfoldable pub number_bytes : ℕ → List ℕ
 number_bytes n = big_bytes 4 n
 
+-- the magic, and how many bytes the body and the meta have
+abbrev pub header_bytes : ℕ → ℕ → List ℕ
+header_bytes body meta = magic ++ number_bytes body ++ number_bytes meta
+
 unfoldable pub body_bytes : Frame → List ℕ
 body_bytes f = meta_bytes f.meta ++ f.payload ++ f.attachment
 

@@ -1,8 +1,6 @@
-use Rattle.std.proofs.Common.{◌≡◌, ◌+◌, ◌≤◌, suc, [], ◌∷◌, ◌++◌, length, vec_len, vec_capacity, sym, ◌∙◌, ap, rules, arith}
-use Rattle.id_pool.specs.Places.{falling}
+use Rattle.std.proofs.Common.{◌≡◌, ◌+◌, suc, [], ◌∷◌, ◌++◌, vec_len, sym, ◌∙◌, ap, rules, arith}
 use Rattle.id_pool.specs.Ranges.{Vacant, opened}
-use Rattle.id_pool.specs.Vacancies.{vacancies}
-use Rattle.id_pool.proofs.Vacant.{opened_more, length-opened, vacancies-opened}
+use Rattle.id_pool.proofs.Vacant.{opened_more, opened_listed}
 use Rattle.id_pool.proofs.pool.Pool.open.Goals as goal
 
 pub loop-cells-preserved : goal.loop-cells-preserved
@@ -20,11 +18,4 @@ pub invariant_of-result : goal.invariant_of-result
 invariant_of-result g c =
     let n : vec_len c.loop-cells.cells ≡ c.args.slots = omega arith in
     let e : c.loop-cells.cells.items ≡ opened c.args.slots = c.loop-cells.invariant.so_far ∙ ap (λ m. opened {T = g.row.T.Denot} m) n in
-    let v : c.in_ok-vacant.vacant.items ≡ falling 0 c.args.slots = search rules in
-    let r : c.args.slots ≤ vec_capacity c.in_ok-vacant.vacant = search rules in
-    let l : length c.loop-cells.cells.items ≡ c.args.slots = ap length e ∙ length-opened g.row.T.Denot c.args.slots in
-    record {
-      listed = v ∙ sym (vacancies-opened g.row.T.Denot 0 c.args.slots) ∙ ap (λ ss. vacancies 0 ss) (sym e);
-      room = omega (arith, l, r);
-      few = omega (arith, l);
-    }
+    opened_listed g.row.T.Denot c.args.slots c.loop-cells.cells.items c.filled.result c.requires.few e c.filled.ensures

@@ -17,7 +17,7 @@ returns-in_default-clause-after g c =
 pub invariant_of-self : goal.invariant_of-self
 invariant_of-self g c =
     let h : Hits c.args.id c.in-Some.at c.args.self.now c.self.inside.slots.items c.index_mut-cell.result.now = record { same = search rules; at = search rules; read = search rules } in
-    still_listed c.in-Some.at c.self.inside.slots.items c.index_mut-cell.result.now c.post.new.self _ _ c.self.invariant (within _ _ _ _ _ h) h.read
+    still_listed c.in-Some.at c.self.inside.slots.items c.index_mut-cell.result.now c.post.new.self _ c.self.invariant (within _ _ _ _ _ h) h.read
     (vacant-post c.version_of.result c.args.code c.index_mut-cell.result.now c.post.new.self c.post.result c.post.ensures.after c.post.ensures.failed)
 
 pub returns-clause-answer : goal.returns-clause-answer

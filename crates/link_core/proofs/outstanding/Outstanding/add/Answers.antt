@@ -1,4 +1,4 @@
-use Rattle.std.proofs.Common.{◌≡◌, ◌+◌, ◌∷◌, [], ◌++◌, nat_eq, Some, length, ap, sym, subst, ◌∙◌, rules}
+use Rattle.std.proofs.Common.{◌≡◌, ◌+◌, ◌∷◌, [], ◌++◌, nat_eq, Some, length, ap, sym, subst, ◌∙◌, rules, arith}
 use Rattle.std.proofs.lemmas.List.{length-append}
 use Rattle.indexmap.proofs.CallerLemmas.{insert_entry-new}
 use Rattle.link_core.specs.Kept.{waiting, AreGone}
@@ -16,6 +16,7 @@ invariant_of-self-2 c =
       count = ap (λ n. n + 1) c.self.invariant.count ∙ sym (ap length w ∙ length-append (waiting c.self.inside.entries.entries) ((c.args.id, c.args.call) ∷ []));
       gone = subst (AreGone f.result) (sym e) (gone_more f.result f.new.entries.entries more f.ensures.gone);
       once = c.in_ok-insert.ensures.unique;
+      few = let long = length-append f.new.entries.entries more in let n = ap length e in omega (arith, long, n, f.ensures.fewer, c.self.invariant.few);
     }
 
 pub returns-clause-added : goal.returns-clause-added

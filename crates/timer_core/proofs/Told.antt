@@ -1,0 +1,146 @@
+-- What the nodes tell of the lists that they stand for.
+use Rattle.std.proofs.Common.{◌≡◌, ℕ, zero, suc, ◌+◌, ◌-◌, ◌<◌, ◌≤◌, ◌≢◌, inl, inr, List, [], ◌∷◌, ◌++◌, length, set, arith, refl, sym, ap, ◌∙◌, subst, get_or-set_same, length-set}
+use Rattle.std.proofs.lemmas.Bool.{cases_lt}
+use Rattle.std.proofs.lemmas.List.{get_or_push, length_push, length-map, set-set, set-get_or}
+use Rattle.std.proofs.lemmas.List.Sums.{sum_by-set, get_or-le-sum_by}
+use Rattle.timer_core.specs.declared.entry.Entry.{Entry}
+use Rattle.timer_core.specs.declared.links.Node.{Node}
+use Rattle.timer_core.specs.declared.links.End.{End}
+use Rattle.timer_core.specs.Chains.{blank_node, no_nodes, node_at, end_at, entries_from, entries_of, lists_of, list_at, least_of, rest_of, front_before, IsShifted, least_at, linked, unlinked, IsChain, depth_of, AreChained}
+use Rattle.timer_core.proofs.Chained.{Agree, agree_set, agree_push, least_told, list_told}
+use Rattle.timer_core.proofs.Shifted.{longer, attached_lists, attached_chains, detached_lists, detached_chains, first_within, rest_told, shift_room, shift_kept, shift_lists}
+
+-- there are as many lists as ends
+pub counted : (nodes : List Node) (ends : List End) (ls : List (List Entry)) → lists_of nodes ends ≡ ls → length ends ≡ length ls
+counted nodes ends ls v = sym (length-map ends (λ e. entries_of nodes e)) ∙ ap (λ (zs : List (List Entry)). length zs) v
+
+longer_unlinked : (nodes : List Node) (e : End) → 0 < e.depth → longer e.head (unlinked nodes e) ≡ e
+longer_unlinked nodes e h = let d : e.depth - 1 + 1 ≡ e.depth = omega arith in let put : ℕ → End = λ n. record { head = e.head; depth = n } in ap put d
+
+module _ (nodes : List Node) (ends : List End) (ls : List (List Entry)) (v : lists_of nodes ends ≡ ls) (k : ℕ) where
+  told : list_at ls k ≡ entries_of nodes (end_at ends k)
+  told = ap (λ (zs : List (List Entry)). list_at zs k) (sym v) ∙ list_told nodes ends k
+
+  -- the first entry of a list that has one
+  pub front_told : 0 < (end_at ends k).depth → list_at ls k ≡ (node_at nodes (end_at ends k).head).entry ∷ rest_of (list_at ls k)
+  front_told h =
+      let whole : list_at ls k ≡ (node_at nodes (end_at ends k).head).entry ∷ entries_of nodes (unlinked nodes (end_at ends k)) = told ∙ rest_told nodes (end_at ends k) h in
+      whole ∙ ap (λ (es : List Entry). (node_at nodes (end_at ends k).head).entry ∷ rest_of es) (sym whole)
+
+  pub vacant_told : (end_at ends k).depth ≡ 0 → list_at ls k ≡ []
+  vacant_told h = told ∙ ap (λ d. entries_from nodes d (end_at ends k).head) h
+
+  depth_from : (d at : ℕ) → entries_from nodes d at ≡ [] → d ≡ 0
+  depth_from zero at h = refl
+  depth_from (suc d) at h = absurd (cc)
+
+  pub vacant_depth : list_at ls k ≡ [] → (end_at ends k).depth ≡ 0
+  vacant_depth h = depth_from (end_at ends k).depth (end_at ends k).head (sym told ∙ h)
+
+  pub some_depth : list_at ls k ≢ [] → 0 < (end_at ends k).depth
+  some_depth h = elim (cases_lt 0 (end_at ends k).depth) [ inl l ↦ l | inr g ↦ absurd (h (vacant_told (omega (arith, g)))) ]
+
+  pub head_within : AreChained nodes ends → k < length ends → 0 < (end_at ends k).depth → (end_at ends k).head < length nodes
+  head_within kept f h = first_within nodes k (end_at ends k) h (kept.lists k f)
+
+  pub least_is : AreChained nodes ends → k < length ends → least_at nodes (end_at ends k) ≡ least_of (list_at ls k)
+  least_is kept f = least_told nodes k (end_at ends k) (kept.lists k f) ∙ ap (λ (es : List Entry). least_of es) (sym told)
+
+  -- one more node in front of a list
+  pub depth_room : AreChained nodes ends → k < length ends → (end_at ends k).depth ≤ length nodes
+  depth_room kept f = let s = get_or-le-sum_by depth_of ends k no_nodes f in omega (arith, s, kept.whole)
+
+  pushed_pairs : AreChained nodes ends → (n : Node) (j : ℕ) → j < length ends → IsChain nodes j (end_at ends j).depth (end_at ends j).head × Agree nodes (nodes ++ n ∷ []) (end_at ends j).depth (end_at ends j).head
+  pushed_pairs kept n j h = (kept.lists j h, agree_push nodes n j (end_at ends j).depth (end_at ends j).head (kept.lists j h))
+
+  pub push_kept : (e : Entry) → AreChained nodes ends → k < length ends → length nodes + 1 < 4294967296 → AreChained (nodes ++ linked nodes (end_at ends k) k e ∷ []) (set ends k (longer (length nodes) (end_at ends k)))
+  push_kept e kept f few =
+      let n : Node = linked nodes (end_at ends k) k e in
+      let long : length (nodes ++ n ∷ []) ≡ length nodes + 1 = length_push nodes n in
+      let s = sum_by-set depth_of ends k (longer (length nodes) (end_at ends k)) no_nodes f in
+      record {
+        lists = attached_chains nodes (nodes ++ n ∷ []) ends k (length nodes) e (end_at ends k) refl (omega (arith, long)) (omega (arith, long)) f (get_or_push nodes n blank_node (length nodes) refl) (pushed_pairs kept n);
+        whole = omega (arith, s, long, kept.whole);
+        few = omega (arith, long, few);
+        many = omega (arith, length-set ends k (longer (length nodes) (end_at ends k)), kept.many);
+      }
+
+  pub push_lists : (e : Entry) → AreChained nodes ends → k < length ends → lists_of (nodes ++ linked nodes (end_at ends k) k e ∷ []) (set ends k (longer (length nodes) (end_at ends k))) ≡ set ls k (e ∷ list_at ls k)
+  push_lists e kept f =
+      let n : Node = linked nodes (end_at ends k) k e in
+      let long : length (nodes ++ n ∷ []) ≡ length nodes + 1 = length_push nodes n in
+      attached_lists nodes (nodes ++ n ∷ []) ends k (length nodes) e (end_at ends k) refl (omega (arith, long)) (omega (arith, long)) f (get_or_push nodes n blank_node (length nodes) refl) (pushed_pairs kept n)
+      ∙ ap (λ (zs : List (List Entry)). set zs k (e ∷ list_at zs k)) v
+
+module _ (nodes : List Node) (ends : List End) (ls : List (List Entry)) (v : lists_of nodes ends ≡ ls) (k : ℕ) (kept : AreChained nodes ends) (f : k < length ends) (some : 0 < (end_at ends k).depth) (e : Entry) where
+  same_ends : set (set ends k (unlinked nodes (end_at ends k))) k (longer (end_at ends k).head (unlinked nodes (end_at ends k))) ≡ ends
+  same_ends = set-set ends k (unlinked nodes (end_at ends k)) (longer (end_at ends k).head (unlinked nodes (end_at ends k))) ∙ ap (λ z. set ends k z) (longer_unlinked nodes (end_at ends k) some) ∙ set-get_or ends k no_nodes
+
+  pub next_within : 0 < (end_at ends k).depth - 1 → (node_at nodes (end_at ends k).head).next < length nodes
+  next_within h =
+      let there : IsChain nodes k (unlinked nodes (end_at ends k)).depth (unlinked nodes (end_at ends k)).head = subst (λ (z : End). IsChain nodes k z.depth z.head) (get_or-set_same ends k (unlinked nodes (end_at ends k)) no_nodes f) (detached_chains nodes ends k f some kept.lists k (let long : length (set ends k (unlinked nodes (end_at ends k))) ≡ length ends = length-set ends k (unlinked nodes (end_at ends k)) in omega (arith, f, long))).0 in
+      first_within nodes k (unlinked nodes (end_at ends k)) h there
+
+  put_pairs : (n : Node) (j : ℕ) → j < length (set ends k (unlinked nodes (end_at ends k))) → IsChain nodes j (end_at (set ends k (unlinked nodes (end_at ends k))) j).depth (end_at (set ends k (unlinked nodes (end_at ends k))) j).head × Agree nodes (set nodes (end_at ends k).head n) (end_at (set ends k (unlinked nodes (end_at ends k))) j).depth (end_at (set ends k (unlinked nodes (end_at ends k))) j).head
+  put_pairs n j h =
+      let both = detached_chains nodes ends k f some kept.lists j h in
+      (both.0, agree_set nodes (end_at ends k).head n (end_at (set ends k (unlinked nodes (end_at ends k))) j).depth (end_at (set ends k (unlinked nodes (end_at ends k))) j).head both.1)
+
+  x_in : (end_at ends k).head < length nodes
+  x_in = first_within nodes k (end_at ends k) some (kept.lists k f)
+
+  cut_in : k < length (set ends k (unlinked nodes (end_at ends k)))
+  cut_in = let long : length (set ends k (unlinked nodes (end_at ends k))) ≡ length ends = length-set ends k (unlinked nodes (end_at ends k)) in omega (arith, f, long)
+
+  pub put_kept : AreChained (set nodes (end_at ends k).head (linked nodes (unlinked nodes (end_at ends k)) k e)) ends
+  put_kept =
+      let n : Node = linked nodes (unlinked nodes (end_at ends k)) k e in
+      let long : length (set nodes (end_at ends k).head n) ≡ length nodes = length-set nodes (end_at ends k).head n in
+      record {
+        lists = subst (λ (zs : List End). (j : ℕ) → j < length zs → IsChain (set nodes (end_at ends k).head n) j (end_at zs j).depth (end_at zs j).head) same_ends (attached_chains nodes (set nodes (end_at ends k).head n) (set ends k (unlinked nodes (end_at ends k))) k (end_at ends k).head e (unlinked nodes (end_at ends k)) (get_or-set_same ends k (unlinked nodes (end_at ends k)) no_nodes f) (omega (arith, long)) (omega (arith, x_in, long)) cut_in (get_or-set_same nodes (end_at ends k).head n blank_node x_in) (put_pairs n));
+        whole = kept.whole ∙ sym long;
+        few = omega (arith, long, kept.few);
+        many = kept.many;
+      }
+
+  pub put_lists : lists_of (set nodes (end_at ends k).head (linked nodes (unlinked nodes (end_at ends k)) k e)) ends ≡ set ls k (e ∷ rest_of (list_at ls k))
+  put_lists =
+      let n : Node = linked nodes (unlinked nodes (end_at ends k)) k e in
+      let long : length (set nodes (end_at ends k).head n) ≡ length nodes = length-set nodes (end_at ends k).head n in
+      let cut : lists_of nodes (set ends k (unlinked nodes (end_at ends k))) ≡ set ls k (rest_of (list_at ls k)) = detached_lists nodes ends k f some kept.lists ∙ ap (λ (zs : List (List Entry)). set zs k (rest_of (list_at zs k))) v in
+      let in_ls : k < length ls = omega (arith, counted nodes ends ls v, f) in
+      ap (λ (zs : List End). lists_of (set nodes (end_at ends k).head n) zs) (sym same_ends)
+      ∙ attached_lists nodes (set nodes (end_at ends k).head n) (set ends k (unlinked nodes (end_at ends k))) k (end_at ends k).head e (unlinked nodes (end_at ends k)) (get_or-set_same ends k (unlinked nodes (end_at ends k)) no_nodes f) (omega (arith, long)) (omega (arith, x_in, long)) cut_in (get_or-set_same nodes (end_at ends k).head n blank_node x_in) (put_pairs n)
+      ∙ ap (λ (zs : List (List Entry)). set zs k (e ∷ list_at zs k)) cut
+      ∙ set-set ls k (rest_of (list_at ls k)) (e ∷ list_at (set ls k (rest_of (list_at ls k))) k)
+      ∙ ap (λ (es : List Entry). set ls k (e ∷ es)) (get_or-set_same ls k (rest_of (list_at ls k)) [] in_ls)
+
+module _ (nodes : List Node) (ends : List End) (ls : List (List Entry)) (v : lists_of nodes ends ≡ ls) (from to : ℕ) (kept : AreChained nodes ends) (f : from < length ends) (t : to < length ends) (apart : from ≢ to) (some : list_at ls from ≢ []) where
+  pub shifted_kept : AreChained (set nodes (end_at ends from).head (linked nodes (end_at ends to) to (node_at nodes (end_at ends from).head).entry)) (set (set ends from (unlinked nodes (end_at ends from))) to (longer (end_at ends from).head (end_at ends to)))
+  shifted_kept = shift_kept nodes ends from to kept f t apart (some_depth nodes ends ls v from some)
+
+  pub shifted_room : (end_at ends to).depth + 1 < 4294967296
+  shifted_room = shift_room nodes ends from to kept f t apart (some_depth nodes ends ls v from some)
+
+  pub shifted_lists : IsShifted from to ls (lists_of (set nodes (end_at ends from).head (linked nodes (end_at ends to) to (node_at nodes (end_at ends from).head).entry)) (set (set ends from (unlinked nodes (end_at ends from))) to (longer (end_at ends from).head (end_at ends to))))
+  shifted_lists =
+      subst (λ (zs : List (List Entry)). IsShifted from to zs (lists_of (set nodes (end_at ends from).head (linked nodes (end_at ends to) to (node_at nodes (end_at ends from).head).entry)) (set (set ends from (unlinked nodes (end_at ends from))) to (longer (end_at ends from).head (end_at ends to))))) v
+      (shift_lists nodes ends from to kept f t apart (some_depth nodes ends ls v from some))
+
+-- an entry in a node that was free
+pub insert_told : (list : ℕ) (e : Entry) (old mid new : List (List Entry)) → 0 < list → list < length old → IsShifted 0 list old mid → list_at old 0 ≢ [] → new ≡ set mid list (e ∷ rest_of (list_at mid list)) → new ≡ set (set old 0 (rest_of (list_at old 0))) list (e ∷ list_at old list)
+insert_told list e old mid new u f is some n =
+    let long : length (set old 0 (rest_of (list_at old 0))) ≡ length old = length-set old 0 (rest_of (list_at old 0)) in
+    let there : list_at mid list ≡ front_before (list_at old 0) (list_at old list) = ap (λ (ls : List (List Entry)). list_at ls list) is ∙ get_or-set_same (set old 0 (rest_of (list_at old 0))) list (front_before (list_at old 0) (list_at old list)) [] (omega (arith, f, long)) in
+    n ∙ ap (λ (ls : List (List Entry)). set ls list (e ∷ rest_of (list_at mid list))) is
+    ∙ set-set (set old 0 (rest_of (list_at old 0))) list (front_before (list_at old 0) (list_at old list)) (e ∷ rest_of (list_at mid list))
+    ∙ ap (λ (es : List Entry). set (set old 0 (rest_of (list_at old 0))) list (e ∷ es)) (ap (λ (es : List Entry). rest_of es) there ∙ rest_front (list_at old 0) (list_at old list) some)
+  where
+    rest_front : (es more : List Entry) → es ≢ [] → rest_of (front_before es more) ≡ more
+    rest_front [] more s = absurd (s refl)
+    rest_front (x ∷ es) more s = refl
+
+-- and where no node is free
+pub insert_new : (list : ℕ) (e : Entry) (old : List (List Entry)) → list_at old 0 ≡ [] → set old list (e ∷ list_at old list) ≡ set (set old 0 (rest_of (list_at old 0))) list (e ∷ list_at old list)
+insert_new list e old none =
+    ap (λ (ls : List (List Entry)). set ls list (e ∷ list_at old list)) (sym (ap (λ (es : List Entry). set old 0 es) (ap (λ (es : List Entry). rest_of es) none ∙ sym none) ∙ set-get_or old 0 []))

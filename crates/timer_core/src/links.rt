@@ -1,0 +1,175 @@
+//! The nodes of lists in one vector, linked by numbers.
+
+ghost use Rattle.std.specs.Prelude.{◌≡◌, ◌≢◌, ◌+◌, ◌-◌, ◌<◌, ◌≤◌, ◌∷◌, [], ◌++◌, length, set, min, OnOk, OnErr};
+ghost use Rattle.timer_core.specs.Chains.{node_at, end_at, blank_node, least_at, unlinked, linked, IsNoted};
+
+use crate::entry::Entry;
+use bit_set::BitSet;
+use rpc_base::NoMemory;
+
+/// An entry in a list.
+#[derive(Clone, Copy)]
+pub struct Node {
+    pub entry: Entry,
+    /// The least moment of the entries from here to the list's end.
+    pub least: u64,
+    /// The number of the next node, where this one isn't the last.
+    pub next: u32,
+    /// The list in which it stands.
+    pub list: u32,
+    /// How many nodes there are from here to the list's end.
+    pub depth: u32,
+}
+
+/// Where a list begins.
+#[derive(Clone, Copy)]
+pub struct End {
+    /// The number of the first node, where there is one.
+    pub head: u32,
+    /// How many nodes the list has.
+    pub depth: u32,
+}
+
+/// Where a list begins.
+pub fn end_of(ends: &Vec<End>, list: usize) -> End
+    requires { list < length ends.now.items }
+    ensures { result ≡ end_at ends.now.items list }
+{
+    ends[list]
+}
+
+/// The entry of a node.
+pub fn entry_at(nodes: &Vec<Node>, at: u32) -> Entry
+    requires { at < length nodes.now.items }
+    ensures { result ≡ (node_at nodes.now.items at).entry }
+{
+    nodes[at as usize].entry
+}
+
+/// The least moment of the entries from a list's beginning to its end.
+pub fn least_from(nodes: &Vec<Node>, end: End) -> u64
+    requires { 0 < end.depth → end.head < length nodes.now.items }
+    ensures { result ≡ least_at nodes.now.items end }
+{
+    if end.depth == 0 {
+        return u64::MAX;
+    }
+    nodes[end.head as usize].least
+}
+
+/// A node in front of a list.
+fn linked_node(nodes: &Vec<Node>, end: End, list: u32, entry: Entry) -> Node
+    requires head { 0 < end.depth → end.head < length nodes.now.items }
+    requires room { end.depth + 1 < 4294967296 }
+    ensures { result ≡ linked nodes.now.items end list entry }
+{
+    let least = least_from(nodes, end);
+    Node {
+        entry,
+        least: if entry.moment <= least {
+            entry.moment
+        } else {
+            least
+        },
+        next: end.head,
+        list,
+        depth: end.depth + 1,
+    }
+}
+
+/// A list without its first node.
+fn behind(node: Node, end: End) -> End
+    requires { 0 < end.depth }
+    ensures { result ≡ record { head = node.next; depth = end.depth - 1 } }
+{
+    End {
+        head: node.next,
+        depth: end.depth - 1,
+    }
+}
+
+/// Takes the first node from one list and puts it in front of another.
+pub fn shift_node(nodes: &mut Vec<Node>, ends: &mut Vec<End>, from: usize, to: usize)
+    requires from_in { from < length ends.old.items }
+    requires to_in { to < length ends.old.items }
+    requires list { to < 4294967296 }
+    requires some { 0 < (end_at ends.old.items from).depth }
+    requires head { (end_at ends.old.items from).head < length nodes.old.items }
+    requires to_head { 0 < (end_at ends.old.items to).depth → (end_at ends.old.items to).head < length nodes.old.items }
+    requires room { (end_at ends.old.items to).depth + 1 < 4294967296 }
+    requires apart { from ≢ to }
+    ensures nodes { nodes.new.items ≡ set nodes.old.items (end_at ends.old.items from).head (linked nodes.old.items (end_at ends.old.items to) to (node_at nodes.old.items (end_at ends.old.items from).head).entry) }
+    ensures ends { ends.new.items ≡ set (set ends.old.items from (unlinked nodes.old.items (end_at ends.old.items from))) to (record { head = (end_at ends.old.items from).head; depth = (end_at ends.old.items to).depth + 1 }) }
+{
+    let end = ends[from];
+    let at = end.head as usize;
+    let node = nodes[at];
+    ends[from] = behind(node, end);
+    let other = ends[to];
+    nodes[at] = linked_node(nodes, other, to as u32, node.entry);
+    ends[to] = End {
+        head: end.head,
+        depth: other.depth + 1,
+    };
+}
+
+/// Puts an entry in front of a list, in a new node. Where memory runs out, or there are 2^32 - 1 nodes, nothing changes.
+pub fn push_node(
+    nodes: &mut Vec<Node>,
+    ends: &mut Vec<End>,
+    list: usize,
+    entry: Entry,
+) -> Result<(), NoMemory>
+    requires list_in { list < length ends.old.items }
+    requires list { list < 4294967296 }
+    requires head { 0 < (end_at ends.old.items list).depth → (end_at ends.old.items list).head < length nodes.old.items }
+    requires room { (end_at ends.old.items list).depth ≤ length nodes.old.items }
+    ensures nodes { OnOk result (nodes.new.items ≡ nodes.old.items ++ linked nodes.old.items (end_at ends.old.items list) list entry ∷ []) }
+    ensures ends { OnOk result (ends.new.items ≡ set ends.old.items list (record { head = length nodes.old.items; depth = (end_at ends.old.items list).depth + 1 })) }
+    ensures few { OnOk result (length nodes.old.items + 1 < 4294967296) }
+    ensures failed { OnErr result (nodes.new.items ≡ nodes.old.items) }
+    ensures failed_ends { OnErr result (ends.new.items ≡ ends.old.items) }
+{
+    let count = nodes.len();
+    if count >= u32::MAX as usize {
+        return Err(NoMemory);
+    }
+    let end = ends[list];
+    let node = linked_node(nodes, end, list as u32, entry);
+    nodes.push(node)?;
+    ends[list] = End {
+        head: count as u32,
+        depth: end.depth + 1,
+    };
+    Ok(())
+}
+
+/// Puts another entry in the place of the first one of a list.
+pub fn put_entry(nodes: &mut Vec<Node>, ends: &Vec<End>, list: usize, entry: Entry)
+    requires list_in { list < length ends.now.items }
+    requires list { list < 4294967296 }
+    requires some { 0 < (end_at ends.now.items list).depth }
+    requires head { (end_at ends.now.items list).head < length nodes.old.items }
+    requires next { 0 < (end_at ends.now.items list).depth - 1 → (node_at nodes.old.items (end_at ends.now.items list).head).next < length nodes.old.items }
+    ensures { nodes.new.items ≡ set nodes.old.items (end_at ends.now.items list).head (linked nodes.old.items (unlinked nodes.old.items (end_at ends.now.items list)) list entry) }
+{
+    let end = ends[list];
+    let node = nodes[end.head as usize];
+    nodes[end.head as usize] = linked_node(nodes, behind(node, end), list as u32, entry);
+}
+
+/// Notes whether a list has an entry. List 0 isn't noted.
+pub fn mark(used: &mut BitSet, ends: &Vec<End>, list: usize)
+    requires list_in { list < length ends.now.items }
+    requires few { length ends.now.items ≤ 4096 }
+    ensures { IsNoted list (end_at ends.now.items list) used.old used.new }
+{
+    if list == 0 {
+        return;
+    }
+    if end_of(ends, list).depth == 0 {
+        used.remove(list as u32);
+        return;
+    }
+    used.insert(list as u32);
+}
