@@ -11,8 +11,8 @@ use Rattle.atomic_table.proofs.Lists.{set_else}
 use Rattle.id_pool.specs.Ids.{make_id}
 use Rattle.id_rule.specs.Words.{packed_word}
 use Rattle.id_rule.specs.Nodes.{numbers_of, IsTakenList}
-use Rattle.id_rule.specs.Receipts.{History, HasSent, receipts_of_range}
-use Rattle.id_rule.specs.Parts.{HasNumber, part_of, view_with, HasLog}
+use Rattle.id_rule.specs.Receipts.{IsNoticed, History, HasSent, receipts_of_range}
+use Rattle.id_rule.specs.Parts.{AreAll, HasNumber, part_of, view_with, HasLog}
 use Rattle.id_rule.specs.Changes.{view_after_load, part_with_taking, part_without_taking}
 use Rattle.id_rule.specs.Phases.{Range, Phase, vacant, reserved, free, locked, ended, taken, retired, slot_word, AreBefore, AreWithin, IsPart, IsSound}
 use Rattle.id_rule.specs.Rule.{HasInHand, IsTold, IsInformed, IsSlot, IsKept}
@@ -22,12 +22,12 @@ use Rattle.id_rule.specs.declared.rule.Sizes.{Sizes}
 use Rattle.id_rule.specs.declared.view.Known.{Known}
 use Rattle.id_rule.specs.declared.view.Part.{Part}
 use Rattle.id_rule.specs.declared.view.View.{View}
-use Rattle.id_rule.proofs.Accounts.{all_accounted}
-use Rattle.id_rule.proofs.Lists.{views_after, part_here, part_else, set_there, index_is}
+use Rattle.id_rule.proofs.Accounts.{accounted_after}
+use Rattle.id_rule.proofs.Lists.{there_below, views_after, part_here, part_else, set_there, index_is}
 use Rattle.id_rule.proofs.Logs.{learned_within, within_prefix}
 use Rattle.id_rule.proofs.Reserving.{load_kept}
 use Rattle.id_rule.proofs.Steps.{slot_moves, slot_steps}
-use Rattle.id_rule.proofs.Turns.{yes_if, no_if}
+use Rattle.id_rule.proofs.Lists.{yes_if, no_if}
 
 -- the logs of a range that is over
 within_before : {E : Type 0} (ks : List (Known E)) (f g : ℕ) (l : List E) → f < g → AreWithin f l ks → AreBefore g ks
@@ -117,13 +117,14 @@ module _ {T E : Type 0} (log : T → List E) (first_id : T → ℕ) (rec : E →
               ended_below = omega arith;
               got = fit.got;
             })
-            (λ slot ne. part_else me.0.parts i slot p ne) refl refl ok.chain (λ slot q ne t. t) told (λ slot q ne t. t) kept.over kept.placed refl kept.rise kept.unsent
+            (λ slot ne. part_else me.0.parts i slot p ne) refl refl ok.chain (λ slot q ne t. t) told (λ slot q ne t. t) kept.over kept.placed kept.beyond refl kept.rise kept.unsent
             (views_after s.views id (view_with me.0 seen i p) (λ _ u. HasSent kept.history.sent u.numbers u.sent) (kept.sents id me.0 at) (λ by u ne t. kept.sents by u t)) kept.news
             (views_after s.views id (view_with me.0 seen i p) (λ by u. HasInHand sizes.slots s.words kept.place by u.hand) (kept.hands id me.0 at) (λ by u ne t. kept.hands by u t))
             (views_after s.views id (view_with me.0 seen i p) (λ by u. IsTakenList sizes.slots s.words kept.place by u.taken) (kept.lists id me.0 at) (λ by u ne t. kept.lists by u t))
             (views_after s.views id (view_with me.0 seen i p) (IsInformed kept.history kept.at.2.holder)
             (tells_take kept.history kept.at.2.holder id i (rg.first, rg.size) (log x) me.0 (view_with me.0 seen i p) (part_here me.0.parts i p ∙ same)
             (λ slot ne. part_else me.0.parts i slot p ne) told.0 (kept.tells id me.0 at)) (λ by u ne t. kept.tells by u t))
+            (views_after s.views id (view_with me.0 seen i p) (λ _ u. AreAll (IsNoticed kept.history) u.notices) (kept.noticed id me.0 at) (λ by u ne t. kept.noticed by u t))
             kept.nodes,
         λ q h. (
           (λ _. (
@@ -169,11 +170,8 @@ module _ {T E : Type 0} (log : T → List E) (first_id : T → ℕ) (rec : E →
       let ok : IsSlot log first_id rec sizes.slots kept.place i s.words s.homes s.views (taken rg l) = subst (IsSlot log first_id rec sizes.slots kept.place i s.words s.homes s.views) tw.2 k.1 in
       let fit = ok.fits id v at in
       let told : IsTold log rec kept.history i (taken rg l) = subst (λ p. IsTold log rec kept.history i p) tw.2 k.2 in
-      let p : Part E = part_without_taking (part_of v i) in (
-        view_with v v.seen i p,
-        gives,
-        tt,
-        slot_steps log first_id rec sizes s i new id v v.seen p (set s.homes i (some None)) (taken rg l) (vacant (f + r)) kept at ok low (length-set s.homes i (some None))
+      let p : Part E = part_without_taking (part_of v i) in
+      let goal = slot_steps log first_id rec sizes s i new id v v.seen p (set s.homes i (some None)) (taken rg l) (vacant (f + r)) kept at ok low (length-set s.homes i (some None))
             (λ j ne. set_else s.homes i j (some None) ne) (set_there s.homes i none (some None) ok.home_is)
             is (omega (arith, ok.sound.2, b), room) tt
             (λ by q ne w. record {
@@ -195,8 +193,16 @@ module _ {T E : Type 0} (log : T → List E) (first_id : T → ℕ) (rec : E →
               taking = refl;
               ended_below = omega (arith, fit.ended_below, a, b);
               got = fit.got;
-            } ok.chain (refl, refl, refl, refl) (λ h less. told.1 h (omega (arith, less, a, b, ok.sound.2))),
-        (refl, λ h a k e t o. all_accounted log first_id rec sizes s id i h a v k kept at e t o),
+            } ok.chain (refl, refl, refl, refl) (λ h less. told.1 h (omega (arith, less, a, b, ok.sound.2))) in (
+        view_with v v.seen i p,
+        gives,
+        tt,
+        goal,
+        (
+          refl,
+          accounted_after log first_id rec sizes record { words = set s.words i new; homes = set s.homes i (some None); views = s.views } id (view_with v v.seen i p) goal
+              (there_below s.views id v at),
+        ),
       )
 
   -- ended to retired, where the seat took this slot last and emptied it
@@ -210,11 +216,8 @@ module _ {T E : Type 0} (log : T → List E) (first_id : T → ℕ) (rec : E →
       let ok : IsSlot log first_id rec sizes.slots kept.place i s.words s.homes s.views (taken rg l) = subst (IsSlot log first_id rec sizes.slots kept.place i s.words s.homes s.views) tw.2 k.1 in
       let fit = ok.fits id v at in
       let told : IsTold log rec kept.history i (taken rg l) = subst (λ p. IsTold log rec kept.history i p) tw.2 k.2 in
-      let p : Part E = part_without_taking (part_of v i) in (
-        view_with v v.seen i p,
-        gives,
-        tt,
-        slot_steps log first_id rec sizes s i new id v v.seen p (set s.homes i (some None)) (taken rg l) (retired f) kept at ok low (length-set s.homes i (some None))
+      let p : Part E = part_without_taking (part_of v i) in
+      let goal = slot_steps log first_id rec sizes s i new id v v.seen p (set s.homes i (some None)) (taken rg l) (retired f) kept at ok low (length-set s.homes i (some None))
             (λ j ne. set_else s.homes i j (some None) ne) (set_there s.homes i none (some None) ok.home_is)
             is (omega (arith, ok.sound.0, a), omega (arith, ok.sound.1, a)) tt
             (λ by q ne w. record {
@@ -236,8 +239,16 @@ module _ {T E : Type 0} (log : T → List E) (first_id : T → ℕ) (rec : E →
               taking = refl;
               ended_below = tt;
               got = fit.got;
-            } ok.chain (refl, refl, refl, refl) tt,
-        (refl, λ h a k e t o. all_accounted log first_id rec sizes s id i h a v k kept at e t o),
+            } ok.chain (refl, refl, refl, refl) tt in (
+        view_with v v.seen i p,
+        gives,
+        tt,
+        goal,
+        (
+          refl,
+          accounted_after log first_id rec sizes record { words = set s.words i new; homes = set s.homes i (some None); views = s.views } id (view_with v v.seen i p) goal
+              (there_below s.views id v at),
+        ),
       )
 
   -- ended to vacant keeps the rule

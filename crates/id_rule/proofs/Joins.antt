@@ -1,5 +1,5 @@
 -- A pass takes in another: the seat of what that one had is now its own.
-use Rattle.std.proofs.Common.{⊎_elim, ◌≡◌, ◌≢◌, ℕ, ◌+◌, ◌<◌, List, [], ◌∷◌, ◌++◌, length, set, length-set, refl, sym, ap, ap₂, ◌∙◌, subst, arith, Option}
+use Rattle.std.proofs.Common.{⊎_elim, ◌≡◌, ◌≢◌, ℕ, ◌+◌, ◌<◌, List, [], ◌++◌, length, set, length-set, refl, sym, ap, ap₂, ◌∙◌, subst, arith, Option}
 use Rattle.std.proofs.Common.{Some, None}
 use mathlib.Core.Option.{some}
 use lib.ListN.{get_elem?}
@@ -7,23 +7,23 @@ use Rattle.atomic_table.specs.Table.{Joins}
 use Rattle.atomic_table.proofs.Lists.{set_else}
 use Rattle.id_rule.specs.declared.view.Receipt.{Receipt}
 use Rattle.id_rule.specs.Nodes.{Place, idle, in_hand, in_queue, on_list, numbers_of, pass_of_node, IsTakenList, IsPlaced, IsNode}
-use Rattle.id_rule.specs.Receipts.{History, HasSent, receipts_of_range}
-use Rattle.id_rule.specs.Parts.{HasNumber, blank_part, part_of, HasLog, spent_view, own_number}
+use Rattle.id_rule.specs.Receipts.{History, IsNoticed, HasSent, receipts_of_range}
+use Rattle.id_rule.specs.Parts.{HasNumber, blank_part, part_of, HasLog, spent_view, own_number, AreAll}
 use Rattle.id_rule.specs.Changes.{either_of, joined_part, joined_view}
 use Rattle.id_rule.specs.Phases.{Phase, vacant, reserved, free, locked, ended, taken, retired, slot_word, home_value, IsPart, IsSeated, IsSound}
 use Rattle.id_rule.specs.Rule.{HasInHand, IsNumbered, IsChained, IsTold, IsInformed, IsKept}
 use Rattle.id_rule.specs.declared.rule.Sizes.{Sizes}
 use Rattle.id_rule.specs.declared.view.Part.{Part}
 use Rattle.id_rule.specs.declared.view.View.{View}
-use Rattle.id_rule.proofs.Lists.{views_after, there_below}
+use Rattle.id_rule.proofs.Lists.{views_after, there_below, all_map}
 use Rattle.id_rule.proofs.Receipts.{at_append, numbers_append}
 use Rattle.id_rule.proofs.Seats.{counts_join, seat_now, renamed, now_id, now_other, now_third, seat_low, seat_both, seat_spent, seat_third, list_both, knew_joined, before_both, within_both}
 use Rattle.id_rule.proofs.Seats.{joined_is}
-use Rattle.id_rule.proofs.Seats.{has_joined, each_both, each_map}
+use Rattle.id_rule.proofs.Seats.{has_joined, all_joined}
 
 -- the history, with the seats after the join
 abbrev pub ghost_now : {E : Type 0} → ℕ → ℕ → History E → History E
-ghost_now other id g = record { numbered = g.numbered; last = g.last; lost = g.lost; ender = λ s f. seat_now other id (g.ender s f); sent = g.sent; width = g.width }
+ghost_now other id g = record g { ender = λ s f. seat_now other id (g.ender s f) }
 
 module _ {T E : Type 0} (log : T → List E) (first_id : T → ℕ) (rec : E → Option Receipt) (other id : ℕ) (apart : other ≢ id) where
   -- the join leaves the word
@@ -122,7 +122,7 @@ module _ {T E : Type 0} (log : T → List E) (first_id : T → ℕ) (rec : E →
     spot = ap₂ either_of a.spot b.spot;
     hold = ap₂ either_of a.hold b.hold ∙ seat_both (r.first, r.size) other id apart who;
     owner = ap₂ either_of a.owner b.owner ∙ seat_both (r.first, r.size) other id apart r.owner;
-    knows = within_both r.first l p.logs q.logs a.knows b.knows;
+    knows = within_both r.first l.log p.logs q.logs a.knows b.knows;
     turn = ap₂ either_of a.turn b.turn ∙ seat_both l other id apart who;
     taking = ap₂ either_of a.taking b.taking;
     ended_below = omega (arith, a.ended_below, b.ended_below);
@@ -344,6 +344,9 @@ join_keeps {T} {E} log first_id rec sizes id other v w no_hand no_list own_one s
       sents = views_both log first_id rec other id apart s.views x y (λ _ u. HasSent g.sent u.numbers u.sent) (counts_join g.sent v.numbers w.numbers v.sent own_one (kept.sents id v at)) tt
           (λ by u a b e. kept.sents by u e);
       placed = λ m. subst (λ (z : ℕ). IsPlaced z (place m)) (sym long) (kept.placed m);
+      beyond = kept.beyond;
+      noticed = views_both log first_id rec other id apart s.views x y (λ _ u. AreAll (IsNoticed (ghost_now other id g)) u.notices)
+          (all_joined (IsNoticed (ghost_now other id g)) v.notices w.notices (kept.noticed id v at) (kept.noticed other w at2)) tt (λ by u a b e. kept.noticed by u e);
       news = λ slot f. (
         subst (λ (z : ℕ). seat_now other id (g.ender slot f) < z) (sym long) (seat_low other id apart (g.ender slot f) (length s.views) below (kept.news slot f).0),
         (kept.news slot f).1,
@@ -376,16 +379,16 @@ join_keeps {T} {E} log first_id rec sizes id other v w no_hand no_list own_one s
           earlier = λ a less. seat_low other id apart (kept.at.2.holder a) kept.at.2.count (subst (λ (z : ℕ). id < z) (sym kept.at.2.seats) below) (kept.at.2.earlier a less);
           each = views_both log first_id rec other id apart s.views x y (IsNumbered (seat_now other id kept.at.2.opener) kept.at.2.count holder) (
             ap₂ either_of (kept.at.2.each id v at).0 (kept.at.2.each other w at2).0 ∙ seat_both kept.at.2.count other id apart kept.at.2.opener,
-            each_both (λ n. (n < kept.at.2.count) × (holder n ≡ id)) v.numbers w.numbers
-                (each_map (λ n. (n < kept.at.2.count) × (kept.at.2.holder n ≡ id)) (λ n. (n < kept.at.2.count) × (holder n ≡ id)) v.numbers
+            all_joined (λ n. (n < kept.at.2.count) × (holder n ≡ id)) v.numbers w.numbers
+                (all_map (λ n. (n < kept.at.2.count) × (kept.at.2.holder n ≡ id)) (λ n. (n < kept.at.2.count) × (holder n ≡ id)) v.numbers
                 (λ n t. (t.0, ap (seat_now other id) t.1 ∙ now_id other id apart)) (kept.at.2.each id v at).1)
-                (each_map (λ n. (n < kept.at.2.count) × (kept.at.2.holder n ≡ other)) (λ n. (n < kept.at.2.count) × (holder n ≡ id)) w.numbers
+                (all_map (λ n. (n < kept.at.2.count) × (kept.at.2.holder n ≡ other)) (λ n. (n < kept.at.2.count) × (holder n ≡ id)) w.numbers
                 (λ n t. (t.0, ap (seat_now other id) t.1 ∙ now_other other id apart)) (kept.at.2.each other w at2).1),
           )
               (sym (seat_spent (Some kept.at.2.count) None other id apart kept.at.2.opener), tt)
               (λ by u a b e. let t = kept.at.2.each by u e in (
                 t.0 ∙ sym (seat_third (Some kept.at.2.count) None other id apart by kept.at.2.opener a b),
-                each_map (λ n. (n < kept.at.2.count) × (kept.at.2.holder n ≡ by)) (λ n. (n < kept.at.2.count) × (holder n ≡ by)) u.numbers
+                all_map (λ n. (n < kept.at.2.count) × (kept.at.2.holder n ≡ by)) (λ n. (n < kept.at.2.count) × (holder n ≡ by)) u.numbers
                     (λ n z. (z.0, ap (seat_now other id) z.1 ∙ now_third other id apart by a)) t.1,
               ));
         },

@@ -1,18 +1,17 @@
 -- Two passes that have the same claim on a slot are one, and an owned slot isn't vacant.
-use Rattle.std.proofs.Common.{◌≡◌, ◌≢◌, ℕ, ◌+◌, ◌*◌, ◌/◌, ◌%◌, ◌<◌, ◌≤◌, eq-eqb, ne_eqb, List, refl, sym, ap, ◌∙◌, subst, arith, Option, Some, None}
+use Rattle.std.proofs.Common.{◌≡◌, ◌≢◌, ℕ, ◌<◌, List, sym, ap, ◌∙◌, subst, arith, Option, Some, None}
 use Rattle.std.specs.Prelude.{◌==◌, if◌then◌else◌}
 use Rattle.std.proofs.lemmas.Option.{none-some, same_Some}
 use mathlib.Core.Logic.{dite}
-use mathlib.Core.Option.{some, some-injective}
+use mathlib.Core.Option.{some-injective}
 use native.Mathlib.Decide.{ℕ_discrete}
 use Rattle.rpc_model.specs.Gone.{code_in, first_in}
-use Rattle.id_rule.specs.Laws.{IsOnePass, OneHolder, OwnedSlotsStay}
-use Rattle.id_rule.specs.declared.view.Part.{Part}
+use Rattle.id_rule.specs.Laws.{OneHolder, OwnedSlotsStay}
 use Rattle.id_rule.specs.declared.view.Receipt.{Receipt}
 use Rattle.id_rule.specs.Nodes.{head_of}
-use Rattle.id_rule.specs.Phases.{Phase, vacant, reserved, free, locked, ended, taken, retired, slot_word, spot_of, hold_of, owner_of, IsPart, IsSound}
+use Rattle.id_rule.specs.Phases.{Phase, vacant, reserved, free, locked, ended, taken, retired, slot_word, spot_of, hold_of, owner_of, IsSound}
 use Rattle.id_rule.proofs.Lists.{code_is, first_is}
-use Rattle.id_rule.proofs.Turns.{yes_if, no_if}
+use Rattle.id_rule.proofs.Lists.{yes_if, no_if}
 
 -- who has something by a choice is the one that was chosen
 chosen : {A : Type 0} (n m : ℕ) (x y : A) → (if n == m then Some x else None) ≡ Some y → (n ≡ m) × (x ≡ y)
