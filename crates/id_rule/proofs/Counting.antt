@@ -103,7 +103,7 @@ module _ {T E : Type 0} (log : T → List E) (first_id : T → ℕ) (rec : E →
       let most : ℕ = sizes.passes * sizes.nodes in
       let same_got : (part_of v i).got ≡ got = fit.got ∙ yes_if id id got bare refl in
       let all : (a : ℕ) → IsRising 0 ((told.0 a).0 ++ numbers_of a ((part_of v i).got ++ reverse (receipts_of qs))) = λ a.
-          subst (IsRising 0) ((told.0 a).1 ∙ ap (λ z. (told.0 a).0 ++ numbers_of a (z ++ reverse (receipts_of qs))) (sym same_got)) (kept.rise i rg.first a).0 in
+      subst (IsRising 0) ((told.0 a).1 ∙ ap (λ z. (told.0 a).0 ++ numbers_of a (z ++ reverse (receipts_of qs))) (sym same_got)) (kept.rise i rg.first a).0 in
       record {
         nodes = subst (λ (z : ℕ). AreAll (λ q. (1 ≤ q.node) × (q.node ≤ z)) qs) (sym total) (nodes_low sizes.slots i most s.words kept.place kept.beyond qs ok.chain.0 ok.chain.1);
         homes = subst (λ (z : ℕ). AreAll (λ q. q.receipt.pass ≡ pass_of_node z q.node) qs) (kept.wide ∙ sym width) told.3;

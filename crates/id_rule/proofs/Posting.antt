@@ -352,12 +352,13 @@ module _ {T E : Type 0} (log : T → List E) (first_id : T → ℕ) (rec : E →
       ))
 
   -- a push, which hits where the head is the one that the node names
-  pub push_keeps : (sizes : Sizes) (slots id i : ℕ) (me : Mine T E) (old new node offset code number : ℕ) → i < sizes.slots → node < 65536 → offset < range_in old → offset < 1024 → code < 65536 → number ≡ me.0.sent
+  pub push_keeps : (sizes : Sizes) (slots id i : ℕ) (me : Mine T E) (old new node offset code number : ℕ) → i < sizes.slots → node < 65536 → offset < range_in old → code < 65536 → number ≡ me.0.sent
       → own_number me.0.numbers ≡ pass_of_node sizes.nodes node
       → me.0.hand ≡ Some (node, node_word (head_in old) offset code, number) → HasNumber (own_number me.0.numbers) me.0.numbers → code_in old ≡ 3
       → new ≡ packed_word (first_in old) (range_in old) 3 node
       → Allows (IsKept log first_id rec sizes) slots id me i (λ n. either (n == old) new n) (IsPush (step slots i old new none) me)
-  push_keeps sizes slots id i me old new node offset code number low small under few_offsets small_code next its_home has own_one says is s kept wide at _ =
+  push_keeps sizes slots id i me old new node offset code number low small under small_code next its_home has own_one says is s kept wide at _ =
+      let few_offsets : offset < 2048 = omega (arith, under) in
       let n = sizes.slots in let place = kept.place in let g : History E = kept.history in
       let rc : Receipt = record { pass = own_number me.0.numbers; number = number } in
       let q : Queued = record { node = node; offset = offset; code = code; receipt = rc } in

@@ -204,6 +204,6 @@ module _ {T E : Type 0} (log : T → List E) (first_id : T → ℕ) (rec : E →
           refl,
           ap head_in found ∙ head_is rg.first rg.size 3 (head_of qs) (omega (arith, ok.sound.0.3)) (omega arith) ok.sound.1,
           chain_told log first_id rec sizes s id i (size_held (part_of me.0 i).hold) me.0 rg l qs got kept at ok told width total size,
-          λ h same waits. ok.sound.3 (ap (λ (z : Turn E). z.waits) (same_Some l h (sym (fit.turn ∙ yes_if id id (Some l) None refl) ∙ same)) ∙ waits),
+          (l, fit.turn ∙ yes_if id id (Some l) None refl, ok.sound.3),
         ),
       )

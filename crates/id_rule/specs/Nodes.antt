@@ -16,7 +16,7 @@ pub data Place : Type 0 where
 
 -- the first word of a node that waits: the next node, the error's code and its offset in the range. A free node's is 0
 abbrev pub node_word : ℕ → ℕ → ℕ → ℕ
-node_word next offset code = next + code * 65536 + offset * 4294967296 + 4398046511104
+node_word next offset code = next + code * 65536 + offset * 4294967296 + 8796093022208
 
 -- the node that a waiting node's first word names, the error's code in it, and its offset
 abbrev pub next_in : ℕ → ℕ
@@ -26,7 +26,7 @@ abbrev pub error_in : ℕ → ℕ
 error_in w = w / 65536 % 65536
 
 abbrev pub offset_in : ℕ → ℕ
-offset_in w = w / 4294967296 % 1024
+offset_in w = w / 4294967296 % 2048
 
 -- the node at the head of a chain, 0 where it is empty
 abbrev pub head_of : List Queued → ℕ

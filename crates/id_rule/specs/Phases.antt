@@ -145,7 +145,7 @@ module _ {T E : Type 0} (first_id : T → ℕ) where
   IsSound slot (vacant first) = (1 ≤ first) × (first ≤ 2 ^ 32 - 1024)
   IsSound slot (reserved first size who) = (1 ≤ first) × (first ≤ 2 ^ 32 - 1024) × (1 ≤ size) × (size ≤ 1024)
   IsSound slot (free r x) = IsRange r × (first_id x ≡ make_id slot r.first)
-  IsSound slot (locked r who l qs got) = 
+  IsSound slot (locked r who l qs got) =
       IsRange r × (head_of qs < 65536) × AreAll (λ q. (q.offset < r.size) × (q.code < 65536)) qs × (l.waits ≡ true → 1 ≤ length qs)
   IsSound slot (ended r x) = IsRange r × (first_id x ≡ make_id slot r.first)
   IsSound slot (taken r l) = IsRange r

@@ -126,11 +126,13 @@ module _ {T E : Type 0} where
       × (first_id x ≡ make_id s.word r.0)
       × ((l : List E) → HasLog (part_of m.0 s.word).logs r.0 l → IsPrefix l (log x))
 
-  -- a load by an Owner's pass: where the word is the ended word of the Owner's range, the pass takes the slot
-  abbrev pub IsTaking : (T → List E) → (T → ℕ) → Step (Option T) → Mine T E → ℕ → Mine T E → Type 0
-  IsTaking log first_id s m n m' = (r : ℕ × ℕ) → (part_of m.0 s.word).owner ≡ Some r
+  -- a load by an Owner's pass: where the word is the ended word of the Owner's range, the pass takes the slot. All receipts of ranges that ended are
+  -- accounted for
+  abbrev pub IsTaking : (T → List E) → (T → ℕ) → (E → Option Receipt) → Step (Option T) → Mine T E → ℕ → Mine T E → Type 0
+  IsTaking log first_id rec s m n m' = ((r : ℕ × ℕ) → (part_of m.0 s.word).owner ≡ Some r
       → (n ≡ packed_word r.0 r.1 4 0 → HasTaken log first_id s m n r m')
-      × (n ≢ packed_word r.0 r.1 4 0 → m' ≡ (view_after_load m.0 s.word n, m.1))
+      × (n ≢ packed_word r.0 r.1 4 0 → m' ≡ (view_after_load m.0 s.word n, m.1)))
+      × IsAccounted rec m'.0
 
   -- ended to vacant or retired: the slot goes back empty, and all receipts of ranges that ended are accounted for
   abbrev pub IsEmptying : (E → Option Receipt) → Step (Option T) → Mine T E → ℕ → Mine T E → Type 0
@@ -176,7 +178,7 @@ module _ {T E : Type 0} where
       × (m' ≡ (taking_view m.0 s.word qs, m.1))
       × (head_in n ≡ head_of qs)
       × IsChainOf rec m.0 s.word (size_held (part_of m.0 s.word).hold) qs
-      × ((t : Turn E) → (part_of m.0 s.word).turn ≡ Some t → t.waits ≡ true → 1 ≤ length qs)
+      × ((t : Turn E) × ((part_of m.0 s.word).turn ≡ Some t) × (t.waits ≡ true → 1 ≤ length qs))
 
   -- a load of a word of the first taken node: it has that node's error
   abbrev pub IsRead : Step (Option T) → Mine T E → ℕ → Mine T E → Type 0

@@ -90,7 +90,7 @@ pub struct Take;
 impl<T: Tenant> Play<Option<T>, View<T::Entry>> for Take {
     ghost use Rattle.id_rule.specs.Steps.{IsTaking};
 
-    ghost then = { IsTaking T.log T.first_id };
+    ghost then = { IsTaking T.log T.first_id T.receipt };
 }
 
 /// An ended slot is vacant or retired.

@@ -1,8 +1,13 @@
-mod Keeping
+mod Draining
 mod Grown
+mod Holding
+mod Keeping
 mod Loads
 mod Looks
 mod Openings
+mod Parts
+mod Scratch
 mod Steady
 mod Tables
+mod Taken
 mod Waits

@@ -4,6 +4,7 @@ use Rattle.std.specs.Prelude.{replicate, All}
 use mathlib.Core.Option.{some}
 use lib.ListN.{get_elem?}
 use Rattle.id_rule.specs.Nodes.{word_at}
+use Rattle.id_rule.specs.Parts.{own_number}
 use Rattle.id_shared.specs.Opening.{IsNewPass, IsRoot, IsOpened, AreOpened}
 use Rattle.id_shared.specs.Standing.{IdTable, Standing, IsPassOf}
 
@@ -39,25 +40,27 @@ nodes_behind slots nodes node one few =
 
 module _ {E : Type 0} where
   -- a new pass is one of the opened passes
-  pub opened_new : (ids : IdTable) (n : ℕ) (p : Standing E) → IsNewPass ids n p → IsOpened ids n p
-  opened_new ids n p h = (
-    (ap (λ z. z.table) h, ap (λ z. z.view.width) h),
+  pub opened_new : (ids : IdTable) (n : ℕ) (p : Standing E) → IsNewPass ids n p → n < ids.sizes.passes → IsOpened ids n p
+  opened_new ids n p h low = (
+    (ap (λ z. z.table) h, ap (λ z. z.view.width) h, ap (λ z. z.view.total) h, subst (λ (z : Standing E). own_number z.view.numbers < ids.sizes.passes) (sym h) low),
     ap (λ z. z.view.numbers) h,
     ap (λ z. z.view.sent) h,
     ap (λ z. z.view.seen) h,
     ap (λ z. z.view.parts) h,
     ap (λ z. z.words) h,
+    ap (λ z. z.scratch) h,
   )
 
   -- the first pass is the first of the opened passes
-  pub opened_root : (ids : IdTable) (n : ℕ) (p : Standing E) → IsRoot ids n p → IsOpened ids 0 p
-  opened_root ids n p h = (
-    (ap (λ z. z.table) h, ap (λ z. z.view.width) h),
+  pub opened_root : (ids : IdTable) (n : ℕ) (p : Standing E) → IsRoot ids n p → 0 < ids.sizes.passes → IsOpened ids 0 p
+  opened_root ids n p h low = (
+    (ap (λ z. z.table) h, ap (λ z. z.view.width) h, ap (λ z. z.view.total) h, subst (λ (z : Standing E). own_number z.view.numbers < ids.sizes.passes) (sym h) low),
     ap (λ z. z.view.numbers) h,
     ap (λ z. z.view.sent) h,
     ap (λ z. z.view.seen) h,
     ap (λ z. z.view.parts) h,
     ap (λ z. z.words) h,
+    ap (λ z. z.scratch) h,
   )
 
   -- one pass more at the end

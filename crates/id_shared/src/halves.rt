@@ -49,7 +49,7 @@ pub fn lock_from<T: Tenant>(ids: &Ids<T>, pass: &mut Pass<T>, slot: u32, word: u
     requires slot { slot < ids.now.sizes.slots }
     requires word { (word < 2 ^ 62) × (code_in word ≡ 2) }
     ensures own { IsPassOf ids.now pass.new }
-    ensures answer { IsLockedFrom T.log T.first_id slot word pass.old result pass.new }
+    ensures answer { IsLockedFrom T.log T.first_id T.receipt slot word pass.old result pass.new }
 {
     ids.lock_from(pass, slot, word)
 }

@@ -15,9 +15,10 @@ mod locking;
 mod opening;
 mod pass;
 mod reserving;
+mod taking;
 mod waiting;
 
-pub use answers::{CollectEnd, LockEnd, Reserve, TryLock, UnlockEnd};
+pub use answers::{CollectEnd, LockEnd, Posted, Reserve, TryLock, TryPost, UnlockEnd};
 pub use claims::{Hold, Owner, Spot};
 pub use id_rule::{Receipt, Tenant};
 pub use ids::Ids;

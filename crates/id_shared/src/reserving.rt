@@ -1,6 +1,7 @@
 //! Loading words, reserving a slot and giving it up.
 ghost use Rattle.std.specs.Prelude.{◌≡◌, ◌<◌, ◌≤◌, ◌^◌, ◌++◌, ◌∷◌, [], ℕ, length, true};
 ghost use Rattle.rpc_model.specs.Gone.{code_in, is_live_in};
+ghost use Rattle.id_rule.specs.Accounts.{IsAccounted};
 ghost use Rattle.id_rule.specs.Changes.{view_after_load};
 ghost use Rattle.id_rule.specs.Parts.{part_of};
 ghost use Rattle.id_shared.specs.Claims.{HasReserved, KeepsClaims, KeepsOthers};
@@ -23,6 +24,7 @@ impl<T: Tenant> Ids<T> {
         ensures view { pass.new ≡ with_view pass.old (view_after_load pass.old.view slot result) }
         ensures small { result < 2 ^ 62 }
         ensures ended { (version : ℕ) → is_live_in result version ≡ true → (part_of pass.old.view slot).ended_below ≤ version }
+        ensures accounted { IsAccounted T.receipt pass.new.view }
     {
         self.table
             .shared

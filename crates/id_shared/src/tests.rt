@@ -79,15 +79,19 @@ pub(crate) fn add(ids: &Ids<Tally>, pass: &mut Pass<Tally>, hold: Hold, mut tall
     requires own { IsPassOf ids.now pass.old }
     requires holding { IsHolding pass.old hold [] }
     requires first { tally.first ≡ first_id_of hold }
+    requires errors { pass.old.scratch ≡ [] }
     ensures own { IsPassOf ids.now pass.new }
     ensures owners { KeepsOwners pass.old pass.new }
 {
     let count = tally.count;
     tally.count = count.wrapping_add(1);
     match ids.unlock(pass, hold, tally) {
-        UnlockEnd::Unlocked => count,
-        _ => unreachable!(),
+        UnlockEnd::Unlocked => {}
+        UnlockEnd::Pending(hold, tally, _) => {
+            ids.destroy(pass, hold, tally);
+        }
     }
+    count
 }
 
 // Locks, adds one, and unlocks.

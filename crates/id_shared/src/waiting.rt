@@ -1,6 +1,7 @@
 //! The calls that may wait. Each tries again and yields in between, as long as it takes; nothing is promised about when a
 //! call that waits returns.
 ghost use Rattle.std.specs.Prelude.{◌≡◌};
+ghost use Rattle.id_rule.specs.Accounts.{IsAccounted};
 ghost use Rattle.id_shared.specs.Answers.{IsLockEnd, IsGoneEnd, HasSeenEnd, IsJoined, IsJoinSeen};
 ghost use Rattle.id_shared.specs.Claims.{HasLockEnd, KeepsClaims, KeepsOthers};
 ghost use Rattle.id_shared.specs.Standing.{IsPassOf, HasOwner};
@@ -22,7 +23,7 @@ impl<T: Tenant> Ids<T> {
     pub fn lock<R: Wait>(&self, rt: &R, pass: &mut Pass<T>, id: u64) -> LockEnd<T>
         requires own { IsPassOf self.now pass.old }
         ensures own { IsPassOf self.now pass.new }
-        ensures answer { IsLockEnd T.log T.first_id self.now.sizes.slots id pass.old result pass.new }
+        ensures answer { IsLockEnd T.log T.first_id T.receipt self.now.sizes.slots id pass.old result pass.new }
         ensures stays_gone { HasSeenEnd self.now.sizes.slots id pass.old → IsGoneEnd result }
         ensures holding { HasLockEnd T.log pass.new result }
         ensures claims { KeepsClaims pass.old pass.new }
@@ -46,6 +47,7 @@ impl<T: Tenant> Ids<T> {
         requires owner { HasOwner pass.old owner }
         ensures own { IsPassOf self.now pass.new }
         ensures answer { IsJoined T.log T.first_id owner pass.old result pass.new }
+        ensures accounted { IsAccounted T.receipt pass.new.view }
         ensures others { KeepsOthers owner.slot pass.old pass.new }
     {
         let mut waits = owner;
