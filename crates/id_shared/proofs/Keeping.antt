@@ -31,7 +31,7 @@ module _ {E : Type 0} where
   kept_part v w slot same r = ((λ h. ap (λ (z : Part E). z.spot) same ∙ h), (λ h. ap (λ (z : Part E). z.hold) same ∙ h), (λ h. ap (λ (z : Part E). z.owner) same ∙ h))
 
   -- what is kept and kept again is kept
-  kept_on : (u v w : View E) (slot : ℕ) → IsKeptAt u v slot → IsKeptAt v w slot → IsKeptAt u w slot
+  pub kept_on : (u v w : View E) (slot : ℕ) → IsKeptAt u v slot → IsKeptAt v w slot → IsKeptAt u w slot
   kept_on u v w slot a b r = ((λ h. (b r).0 ((a r).0 h)), (λ h. (b r).1 ((a r).1 h)), (λ h. (b r).2 ((a r).2 h)))
 
   -- loads keep claims
@@ -71,12 +71,12 @@ module _ {E : Type 0} where
       (λ ne. kept_part v w slot (has.there slot ne))
 
   -- a Hold where there was none keeps claims
-  kept_hold : (v : View E) (c : Claim) (log : List E) → (part_of v c.slot).hold ≡ None → (slot : ℕ) → IsKeptAt v (view_with_hold v c log) slot
+  pub kept_hold : (v : View E) (c : Claim) (log : List E) → (part_of v c.slot).hold ≡ None → (slot : ℕ) → IsKeptAt v (view_with_hold v c log) slot
   kept_hold v c log bare = kept_at_part c.slot v (view_with_hold v c log) (part_held (part_of v c.slot) (c.first, c.size) log) (held_part v c log)
       (λ r. ((λ h. h), (λ h. absurd (none-some r (sym bare ∙ h))), (λ h. h)))
 
   -- the Hold that a lock gave
-  holding : (q : Standing E) (v : View E) (c : Claim) (log : List E) → q.view ≡ view_with_hold v c log → IsHolding q c log
+  pub holding : (q : Standing E) (v : View E) (c : Claim) (log : List E) → q.view ≡ view_with_hold v c log → IsHolding q c log
   holding q v c log is =
       let here : part_of q.view c.slot ≡ part_held (part_of v c.slot) (c.first, c.size) log = ap (λ w. part_of w c.slot) is ∙ (held_part v c log).here in
       (ap (λ (z : Part E). z.hold) here, ap (λ (z : Part E). z.turn) here, ap (λ (z : Part E). z.got) here)

@@ -6,6 +6,9 @@ mod Loads
 mod Looks
 mod Openings
 mod Parts
+mod Picks
+mod Errands
+mod Pushes
 mod Scratch
 mod Steady
 mod Tables

@@ -62,8 +62,8 @@ changed_as {E} i v w p q same = subst (λ z. HasChanged i v z w) same
 module _ {T E : Type 0} (t t' : TableId) (i number sent : ℕ) (room : Rooms) (me me' : Me (Option T) (View E)) (same : t' ≡ t) (less : i < t.slots)
     (st : IsSteady t.slots me number sent room) where
   -- a change of one part, with the slot at home
-  pub steady_after : (w : View E) (p : Part E) → HasChanged i me.0 p w → w.sent ≡ me.0.sent → IsLaid p.turn → me' ≡ (w, []) → IsSteady t'.slots me' number sent room
-  steady_after w p moves count laid is = subst (λ (z : TableId × Me (Option T) (View E)). IsSteady z.0.slots z.1 number sent room) (λ y. (sym same y, sym is y)) record {
+  pub steady_after : (w : View E) (p : Part E) (sent' : ℕ) → HasChanged i me.0 p w → w.sent ≡ sent' → IsLaid p.turn → me' ≡ (w, []) → IsSteady t'.slots me' number sent' room
+  steady_after w p sent' moves count laid is = subst (λ (z : TableId × Me (Option T) (View E)). IsSteady z.0.slots z.1 number sent' room) (λ y. (sym same y, sym is y)) record {
     hand = moves.hand;
     taken = moves.taken;
     carried = refl;
@@ -73,7 +73,7 @@ module _ {T E : Type 0} (t t' : TableId) (i number sent : ℕ) (room : Rooms) (m
     low = λ slot more. subst IsUnclaimed (sym (moves.there slot (λ e. omega (arith, less, more, e)))) (st.low slot more);
     own = ap own_number moves.numbers ∙ st.own;
     has = subst (HasNumber number) (sym moves.numbers) st.has;
-    sent_is = count ∙ st.sent_is;
+    sent_is = count;
     roomy = st.roomy;
     wide = subst (λ (z : ℕ). z ≤ room.words) (sym moves.width) st.wide;
     deep = subst (λ (z : ℕ). z ≤ room.pending) (sym moves.total) st.deep;
@@ -82,7 +82,7 @@ module _ {T E : Type 0} (t t' : TableId) (i number sent : ℕ) (room : Rooms) (m
 
   -- a step that changes one part, with the slot at home
   pub steady_part : (seen : List (ℕ × ℕ)) (p : Part E) → IsLaid p.turn → me' ≡ (view_with me.0 seen i p, me.1) → IsSteady t'.slots me' number sent room
-  steady_part seen p laid is = steady_after (view_with me.0 seen i p) p (changed_with i me.0 seen p st.hand st.taken) refl laid (is ∙ ap (λ c. (view_with me.0 seen i p, c)) st.carried)
+  steady_part seen p laid is = steady_after (view_with me.0 seen i p) p sent (changed_with i me.0 seen p st.hand st.taken) st.sent_is laid (is ∙ ap (λ c. (view_with me.0 seen i p, c)) st.carried)
 
   -- a load
   pub steady_load : (n : ℕ) → me' ≡ (view_after_load me.0 i n, me.1) → IsSteady t'.slots me' number sent room

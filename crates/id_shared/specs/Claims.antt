@@ -12,6 +12,10 @@ use Rattle.id_shared.specs.declared.answers.LockEnd.{LockEnd}
 use Rattle.id_shared.specs.declared.answers.LockEnd.TheVariants as lock
 use Rattle.id_shared.specs.declared.answers.UnlockEnd.{UnlockEnd}
 use Rattle.id_shared.specs.declared.answers.UnlockEnd.TheVariants as unlock
+use Rattle.id_shared.specs.declared.answers.TryPost.{TryPost}
+use Rattle.id_shared.specs.declared.answers.TryPost.TheVariants as post
+use Rattle.id_shared.specs.declared.answers.PostEnd.{PostEnd}
+use Rattle.id_shared.specs.declared.answers.PostEnd.TheVariants as end
 use Rattle.id_shared.specs.declared.answers.CollectEnd.{CollectEnd}
 use Rattle.id_shared.specs.declared.answers.CollectEnd.TheVariants as collect
 use Rattle.id_shared.specs.Standing.{Claim, Standing, HasSpot, HasHold}
@@ -76,3 +80,24 @@ abbrev pub KeepsHolding : {T E : Type 0} → Claim → Standing E → UnlockEnd 
 KeepsHolding c p unlock.Unlocked q = Unit {0}
 KeepsHolding {T} {E} c p (unlock.Pending same x count) q = KeepsClaims p q
     × ((log : List E) (got : List Receipt) → IsHoldingWith p c log got → IsHoldingWith q c log (got ++ receipts_in_errors q.scratch))
+
+-- the pass has the same errors still to hand out, of the same Hold
+abbrev pub KeepsErrors : {E : Type 0} → Standing E → Standing E → Type 0
+KeepsErrors p q = (q.scratch ≡ p.scratch) × (q.holder ≡ p.holder)
+
+-- a Hold that was answered is the pass's, and its value's log was the log at the lock
+abbrev pub HasTriedPost : {T E : Type 0} → (T → List E) → Standing E → TryPost T → Type 0
+HasTriedPost log q (post.Locked c x) = IsHolding q c (log x)
+HasTriedPost log q (post.Queued r) = Unit {0}
+HasTriedPost log q (post.Gone word) = Unit {0}
+HasTriedPost log q post.NoSlot = Unit {0}
+HasTriedPost log q post.NoNode = Unit {0}
+HasTriedPost log q (post.Again word found) = Unit {0}
+
+-- the same
+abbrev pub HasPostEnd : {T E : Type 0} → (T → List E) → Standing E → PostEnd T → Type 0
+HasPostEnd log q (end.Locked c x) = IsHolding q c (log x)
+HasPostEnd log q (end.Queued r) = Unit {0}
+HasPostEnd log q (end.Gone word) = Unit {0}
+HasPostEnd log q end.NoSlot = Unit {0}
+HasPostEnd log q end.NoNode = Unit {0}

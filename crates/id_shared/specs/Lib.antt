@@ -2,6 +2,7 @@ pub mod Answers
 pub mod Claims
 pub mod Draining
 pub mod Opening
+pub mod Picking
 pub mod Posts
 pub mod Standing
 pub mod Steady

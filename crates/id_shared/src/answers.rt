@@ -38,6 +38,21 @@ pub enum LockEnd<T> {
     NoSlot,
 }
 
+/// What `post` answers.
+pub enum PostEnd<T> {
+    /// The range was free. It is locked now, to handle the error at once, and this is its value.
+    Locked(Hold, T),
+    /// Another pass has the range, and the error waits for it.
+    Queued(Receipt),
+    /// The id isn't live: the word that shows it.
+    Gone(u64),
+    /// The id names no slot of this table.
+    NoSlot,
+    /// Another pass has the range, and each of this pass's nodes was loaded as not free (`Pass::seen` has the words), or this
+    /// pass has numbered 2^64 - 1 receipts.
+    NoNode,
+}
+
 /// What `unlock` answers.
 pub enum UnlockEnd<T> {
     /// The range is unlocked, with its value.

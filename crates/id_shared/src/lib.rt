@@ -14,11 +14,12 @@ mod ids;
 mod locking;
 mod opening;
 mod pass;
+mod posting;
 mod reserving;
 mod taking;
 mod waiting;
 
-pub use answers::{CollectEnd, LockEnd, Posted, Reserve, TryLock, TryPost, UnlockEnd};
+pub use answers::{CollectEnd, LockEnd, PostEnd, Posted, Reserve, TryLock, TryPost, UnlockEnd};
 pub use claims::{Hold, Owner, Spot};
 pub use id_rule::{Receipt, Tenant};
 pub use ids::Ids;

@@ -146,8 +146,8 @@ invariant_of-pass g c =
     let long = c.drain.new.list.ok.0 in (
       subst (λ (z : ℕ). IsSteady c.drain.new.seat.table_id.slots c.drain.new.seat.me c.pass.inside.number c.pass.inside.sent
           record { words = vec_capacity c.pass.inside.words; pending = vec_capacity c.pass.inside.pending; dropped = z }) (sym c.drain.ensures.same.2)
-          (steady_after s.table_id c.drain.new.seat.table_id k.slot _ _ _ s.me c.drain.new.seat.me same low c.pass.invariant.0 w p
-          (changed_part k.slot s.me.0 w p (destroyed_part s.me.0 own log told.1 qs) refl refl refl c.pass.invariant.0.hand refl) refl tt
+          (steady_after s.table_id c.drain.new.seat.table_id k.slot _ _ _ s.me c.drain.new.seat.me same low c.pass.invariant.0 w p _
+          (changed_part k.slot s.me.0 w p (destroyed_part s.me.0 own log told.1 qs) refl refl refl c.pass.invariant.0.hand refl) c.pass.invariant.0.sent_is tt
           (c.drain.ensures.me ∙ ap (λ m. (view_with_list m.0 [], m.1)) told.5
           ∙ (λ i. (view_with_list (ending_view (put i).0 k.slot (first i) (first i + size i) log told.1 qs) [], rest (put i).1)) ∙ ap (λ z. (w, z)) c.pass.invariant.0.carried)),
       (c.pass.invariant.1.0, omega (arith, few, all, most, count, long), tt),

@@ -58,8 +58,8 @@ invariant_of-pass-2 g c =
     let k : Claim = record { slot = c.args.slot; first = first_in c.args.word; size = range_in c.args.word } in
     let p = part_held (part_of s.me.0 c.args.slot) (first_in c.args.word, range_in c.args.word) log in
     let w = view_with_hold s.me.0 k log in (
-      steady_after s.table_id c.take_out-value.new.seat.table_id c.args.slot _ _ _ s.me c.take_out-value.new.seat.me (c.take_out-value.ensures.same.0 ∙ e.0) at.3 c.pass.invariant.0 w p
-          (changed_part c.args.slot s.me.0 w p (held_part s.me.0 k log) refl refl refl c.pass.invariant.0.hand c.pass.invariant.0.taken) refl (refl, refl)
+      steady_after s.table_id c.take_out-value.new.seat.table_id c.args.slot _ _ _ s.me c.take_out-value.new.seat.me (c.take_out-value.ensures.same.0 ∙ e.0) at.3 c.pass.invariant.0 w p _
+          (changed_part c.args.slot s.me.0 w p (held_part s.me.0 k log) refl refl refl c.pass.invariant.0.hand c.pass.invariant.0.taken) c.pass.invariant.0.sent_is (refl, refl)
           (c.take_out-value.ensures.me ∙ ap (λ m. (view_laid m.0 c.args.slot, rest m.1)) lock.1 ∙ ap (λ z. (w, z)) c.pass.invariant.0.carried),
       c.pass.invariant.1,
     )

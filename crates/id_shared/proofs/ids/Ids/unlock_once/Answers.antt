@@ -148,8 +148,8 @@ invariant_of-pass-2 g c =
     let p = part_after_pending (part_of s.me.0 k.slot) word qs in let w = view_after_pending s.me.0 own word qs in (
       subst (λ (z : ℕ). IsSteady c.take_out-value.new.seat.table_id.slots c.take_out-value.new.seat.me c.pass.inside.number c.pass.inside.sent
           record { words = vec_capacity c.pass.inside.words; pending = z; dropped = vec_capacity c.pass.inside.dropped }) (sym c.take.ensures.same.2)
-          (steady_after s.table_id c.take_out-value.new.seat.table_id k.slot _ _ _ s.me c.take_out-value.new.seat.me same low c.pass.invariant.0 w p
-          (changed_part k.slot s.me.0 w p (pending_part s.me.0 own word qs) refl refl refl c.pass.invariant.0.hand refl) refl (laid_again (part_of s.me.0 k.slot).turn)
+          (steady_after s.table_id c.take_out-value.new.seat.table_id k.slot _ _ _ s.me c.take_out-value.new.seat.me same low c.pass.invariant.0 w p _
+          (changed_part k.slot s.me.0 w p (pending_part s.me.0 own word qs) refl refl refl c.pass.invariant.0.hand refl) c.pass.invariant.0.sent_is (laid_again (part_of s.me.0 k.slot).turn)
           (c.take_out-value.ensures.me ∙ ap (λ m. (view_laid m.0 k.slot, rest m.1)) taken ∙ ap (λ z. (w, z)) c.pass.invariant.0.carried)),
       (omega (arith, few, all, most, count, long), omega (arith, none_left), empty.1),
     )
