@@ -1,5 +1,5 @@
 -- A pass takes in another: the seat of what that one had is now its own.
-use Rattle.std.proofs.Common.{⊎_elim, ◌≡◌, ◌≢◌, ℕ, ◌+◌, ◌<◌, List, [], ◌++◌, length, set, length-set, refl, sym, ap, ap₂, ◌∙◌, subst, arith, Option}
+use Rattle.std.proofs.Common.{⊎_elim, ◌≡◌, ◌≢◌, ℕ, ◌+◌, ◌<◌, ◌≤◌, List, [], ◌++◌, length, set, length-set, refl, sym, ap, ap₂, ◌∙◌, subst, arith, Option}
 use Rattle.std.proofs.Common.{Some, None}
 use mathlib.Core.Option.{some}
 use lib.ListN.{get_elem?}
@@ -15,6 +15,8 @@ use Rattle.id_rule.specs.Rule.{HasInHand, IsNumbered, IsChained, IsTold, IsInfor
 use Rattle.id_rule.specs.declared.rule.Sizes.{Sizes}
 use Rattle.id_rule.specs.declared.view.Part.{Part}
 use Rattle.id_rule.specs.declared.view.View.{View}
+use Rattle.std.specs.Prelude.{if◌then◌else◌}
+use Rattle.id_rule.proofs.Clashes.{views_apart}
 use Rattle.id_rule.proofs.Lists.{views_after, there_below, all_map}
 use Rattle.id_rule.proofs.Receipts.{at_append, numbers_append}
 use Rattle.id_rule.proofs.Seats.{counts_join, seat_now, renamed, now_id, now_other, now_third, seat_low, seat_both, seat_spent, seat_third, list_both, knew_joined, before_both, within_both}
@@ -324,8 +326,9 @@ module _ {T E : Type 0} (log : T → List E) (first_id : T → ℕ) (rec : E →
 -- joining a pass keeps the rule
 pub join_keeps : {T E : Type 0} (log : T → List E) (first_id : T → ℕ) (rec : E → Option Receipt) (sizes : Sizes) (id other : ℕ) (v w : View E) → w.hand ≡ None → w.taken ≡ []
     → HasNumber (own_number v.numbers) v.numbers
+    → ((slot : ℕ) → sizes.slots ≤ slot → ((part_of w slot).spot ≡ None) × ((part_of w slot).hold ≡ None) × ((part_of w slot).owner ≡ None))
     → Joins (IsKept log first_id rec sizes) id v other w (joined_view v w) (spent_view)
-join_keeps {T} {E} log first_id rec sizes id other v w no_hand no_list own_one s kept at apart at_other =
+join_keeps {T} {E} log first_id rec sizes id other v w no_hand no_list own_one low_claims s kept at apart at_other =
     let k = sizes.slots in let place = kept.place in let g : History E = kept.history in
     let x : View E = joined_view v w in let y : View E = spent_view in
     let at2 : get_elem? s.views other ≡ some w = sym (set_else s.views id other x apart) ∙ at_other in
@@ -334,6 +337,8 @@ join_keeps {T} {E} log first_id rec sizes id other v w no_hand no_list own_one s
     let idle_hand : HasInHand k s.words place other None = subst (HasInHand k s.words place other) no_hand (kept.hands other w at2) in
     let idle_list : IsTakenList k s.words place other [] = subst (IsTakenList k s.words place other) no_list (kept.lists other w at2) in
     let below = there_below s.views id v at in
+    let no_clash = views_apart log first_id rec sizes s id other v w kept at at2 apart low_claims in
+    let mine : HasInHand k s.words place id x.hand = subst (λ b. HasInHand k s.words place id (if b then Some (0, 0, 0) else v.hand)) (sym no_clash) (kept.hands id v at) in
     record {
       place = place;
       history = ghost_now other id g;
@@ -393,7 +398,7 @@ join_keeps {T} {E} log first_id rec sizes id other v w no_hand no_list own_one s
               ));
         },
       );
-      hands = views_both log first_id rec other id apart s.views x y (λ by u. HasInHand k s.words place by u.hand) (kept.hands id v at) idle_hand (λ by u a b e. kept.hands by u e);
+      hands = views_both log first_id rec other id apart s.views x y (λ by u. HasInHand k s.words place by u.hand) mine idle_hand (λ by u a b e. kept.hands by u e);
       lists = views_both log first_id rec other id apart s.views x y (λ by u. IsTakenList k s.words place by u.taken) (kept.lists id v at) idle_list (λ by u a b e. kept.lists by u e);
       tells = views_both log first_id rec other id apart s.views x y (IsInformed (ghost_now other id g) holder)
           (tells_both log first_id rec other id apart g kept.at.2.holder v w (kept.tells id v at) (kept.tells other w at2)) (tells_spent log first_id rec other id apart g kept.at.2.holder)

@@ -1,5 +1,6 @@
 pub mod Accounts
 pub mod Chains
+pub mod Clashes
 pub mod Collecting
 pub mod Counting
 pub mod Ended
@@ -19,3 +20,4 @@ pub mod Single
 pub mod Steps
 pub mod Taking
 pub mod Turns
+pub mod Waiting

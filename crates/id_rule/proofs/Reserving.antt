@@ -17,7 +17,7 @@ use Rattle.id_rule.specs.Nodes.{head_of}
 use Rattle.id_rule.specs.Parts.{part_of, view_with}
 use Rattle.id_rule.specs.Changes.{part_with_spot, part_with_ended_below, view_after_load}
 use Rattle.id_rule.specs.Phases.{Phase, vacant, reserved, free, locked, ended, taken, retired, slot_word, HasEnded, IsPart, IsSound}
-use Rattle.id_rule.specs.Rule.{IsTold, IsSlot, IsKept}
+use Rattle.id_rule.specs.Rule.{HasInHand, IsTold, IsSlot, IsKept}
 use Rattle.id_rule.specs.Steps.{Mine, IsLook, IsReserving, IsGivingUp}
 use Rattle.id_rule.proofs.Accounts.{accounted_after}
 use Rattle.id_rule.proofs.Lists.{there_below, index_is, code_is, first_is, range_is}
@@ -124,6 +124,7 @@ module _ {T E : Type 0} (log : T → List E) (first_id : T → ℕ) (rec : E →
           (λ v live. not_live i k.0 (part_of me.0 i).ended_below v k.1.sound f.ended_below (ap (λ (z : ℕ). is_live_in z v) (sym found) ∙ live)),
           accounted_after log first_id rec sizes record { words = set s.words i n; homes = s.homes; views = s.views } id (view_after_load me.0 i n) (load_kept sizes s i id me.0 kept at low)
               (there_below s.views id me.0 at),
+          (λ h has. (subst (HasInHand sizes.slots s.words kept.place id) has (kept.hands id me.0 at)).0),
         ),
       )
 

@@ -21,7 +21,7 @@ chosen n m x y e = dite (ℕ_discrete n m)
 
 module _ {T E : Type 0} where
   -- one seat has the Spot
-  one_spot : (ph : Phase T E) (a b : ℕ) (r q : ℕ × ℕ) → spot_of ph a ≡ Some r → spot_of ph b ≡ Some q → a ≡ b
+  pub one_spot : (ph : Phase T E) (a b : ℕ) (r q : ℕ × ℕ) → spot_of ph a ≡ Some r → spot_of ph b ≡ Some q → a ≡ b
   one_spot (vacant f) a b r q e h = absurd (none-some r e)
   one_spot (reserved f k who) a b r q e h = sym (chosen who a (f, k) r e).0 ∙ (chosen who b (f, k) q h).0
   one_spot (free g x) a b r q e h = absurd (none-some r e)
@@ -31,7 +31,7 @@ module _ {T E : Type 0} where
   one_spot (retired f) a b r q e h = absurd (none-some r e)
 
   -- one seat has the Hold
-  one_hold : (ph : Phase T E) (a b : ℕ) (r q : ℕ × ℕ) → hold_of ph a ≡ Some r → hold_of ph b ≡ Some q → a ≡ b
+  pub one_hold : (ph : Phase T E) (a b : ℕ) (r q : ℕ × ℕ) → hold_of ph a ≡ Some r → hold_of ph b ≡ Some q → a ≡ b
   one_hold (vacant f) a b r q e h = absurd (none-some r e)
   one_hold (reserved f k who) a b r q e h = absurd (none-some r e)
   one_hold (free g x) a b r q e h = absurd (none-some r e)
@@ -41,7 +41,7 @@ module _ {T E : Type 0} where
   one_hold (retired f) a b r q e h = absurd (none-some r e)
 
   -- one seat has the Owner
-  one_owner : (ph : Phase T E) (a b : ℕ) (r q : ℕ × ℕ) → owner_of ph a ≡ Some r → owner_of ph b ≡ Some q → a ≡ b
+  pub one_owner : (ph : Phase T E) (a b : ℕ) (r q : ℕ × ℕ) → owner_of ph a ≡ Some r → owner_of ph b ≡ Some q → a ≡ b
   one_owner (vacant f) a b r q e h = absurd (none-some r e)
   one_owner (reserved f k who) a b r q e h = absurd (none-some r e)
   one_owner (free g x) a b r q e h = sym (chosen g.owner a (g.first, g.size) r e).0 ∙ (chosen g.owner b (g.first, g.size) q h).0

@@ -1,5 +1,5 @@
 -- How a step changes the view of its pass: the part of one slot, the list of taken nodes, the node in hand. This project's own choice.
-use Rattle.std.specs.Prelude.{ℕ, ◌+◌, max, Bool, true, false, List, [], ◌∷◌, ◌++◌, reverse, Option, Some, None}
+use Rattle.std.specs.Prelude.{ℕ, ◌+◌, max, Bool, true, false, List, [], ◌∷◌, ◌++◌, ◌&&◌, ◌||◌, is_some, if◌then◌else◌, reverse, Option, Some, None}
 use Rattle.id_rule.specs.declared.view.Notice.{Notice}
 use Rattle.id_rule.specs.declared.view.Part.{Part}
 use Rattle.id_rule.specs.declared.view.Queued.{Queued}
@@ -170,9 +170,20 @@ module _ {E : Type 0} where
   joined_parts ps qs [] = ps
   joined_parts ps qs (k ∷ ks) = (k.0, joined_part (part_at ps k.0) (part_at qs k.0)) ∷ joined_parts ps qs ks
 
-  -- the view of a pass that took in another
+  -- both have a Spot, a Hold or an Owner of the slot
+  abbrev pub do_both_claim : Part E → Part E → Bool
+  do_both_claim p q = (is_some p.spot && is_some q.spot) || (is_some p.hold && is_some q.hold) || (is_some p.owner && is_some q.owner)
+
+  -- both have a claim on one slot, of those that the second knows of
+  abbrev pub do_clash : List (ℕ × Part E) → List (ℕ × Part E) → List (ℕ × Part E) → Bool
+  do_clash ps qs [] = false
+  do_clash ps qs (k ∷ ks) = do_both_claim (part_at ps k.0) (part_at qs k.0) || do_clash ps qs ks
+
+  -- The view of a pass that took in another. The rule lets no two passes have a claim on one slot; the view says so by its hand, which would have a node
+  -- that there isn't, and so the pass learns it at its next load
   abbrev pub joined_view : View E → View E → View E
   joined_view v w = record v {
+    hand = if do_clash v.parts w.parts w.parts then Some (0, 0, 0) else v.hand;
     numbers = v.numbers ++ w.numbers;
     next = either_of v.next w.next;
     seen = v.seen ++ w.seen;

@@ -48,13 +48,15 @@ module _ {T E : Type 0} where
   abbrev pub HasMissed : Step (Option T) → Mine T E → ℕ → Mine T E → Type 0
   HasMissed s m n m' = n ≢ s.first → m' ≡ (view_after_load m.0 s.word n, m.1)
 
-  -- a load of a slot's word; a version that it shows live is none that the pass has seen end, and all receipts of ranges that ended are accounted for
+  -- a load of a slot's word; a version that it shows live is none that the pass has seen end, all receipts of ranges that ended are accounted for, and a
+  -- node in hand is one
   abbrev pub IsLook : (E → Option Receipt) → Step (Option T) → Mine T E → ℕ → Mine T E → Type 0
   IsLook rec s m n m' =
       (m' ≡ (view_after_load m.0 s.word n, m.1))
       × (n < 2 ^ 62)
       × ((version : ℕ) → is_live_in n version ≡ true → (part_of m.0 s.word).ended_below ≤ version)
       × IsAccounted rec m'.0
+      × ((h : ℕ × ℕ × ℕ) → m.0.hand ≡ Some h → 1 ≤ h.0)
 
   -- vacant to reserved: the pass, which had no Spot of the slot, has one
   abbrev pub IsReserving : Step (Option T) → Mine T E → ℕ → Mine T E → Type 0

@@ -1,21 +1,19 @@
 -- Which claims and errors a pass has after `try_post`, and what it holds.
-use Rattle.std.proofs.Common.{⊎_elim, inl, inr, ◌≡◌, ℕ, ◌-◌, List, [], ◌∷◌, ◌++◌, refl, sym, ap, ◌∙◌, Option, Some, None}
+use Rattle.std.proofs.Common.{⊎_elim, ℕ, ◌-◌, List, refl, ap, Option}
 use Rattle.id_pool.specs.Ids as ids
 use Rattle.rpc_model.specs.Gone.{first_in}
 use Rattle.id_rule.specs.Changes.{view_after_load, part_with_receipt, pushing_view}
 use Rattle.id_rule.specs.declared.view.Notice.{Notice}
-use Rattle.id_rule.specs.declared.view.Part.{Part}
 use Rattle.id_rule.specs.declared.view.Receipt.{Receipt}
 use Rattle.id_rule.specs.declared.view.View.{View}
 use Rattle.id_rule.specs.Parts.{own_number, part_at, part_of}
 use Rattle.id_shared.specs.Claims.{IsKeptAt, KeepsClaims, KeepsErrors, HasTriedPost}
 use Rattle.id_shared.specs.declared.answers.TryPost.{TryPost}
 use Rattle.id_shared.specs.declared.answers.TryPost.TheVariants as post
-use Rattle.id_shared.specs.Posts.{IsTriedPost, HasPosted, next_notice, view_with_nodes}
+use Rattle.id_shared.specs.Posts.{IsTriedPost, next_notice, view_with_nodes}
 use Rattle.id_shared.specs.Standing.{Standing}
 use Rattle.id_shared.specs.Views.{first_node, with_view, view_with_hold}
 use Rattle.id_shared.proofs.Keeping.{kept_part, kept_to, kept_on, kept_load, kept_hold, kept_at_part, holding}
-use Rattle.id_shared.proofs.Loads.{one_load}
 use Rattle.id_shared.proofs.Parts.{part_on_top}
 use Rattle.id_shared.proofs.Picks.{picks_keep}
 

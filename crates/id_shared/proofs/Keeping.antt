@@ -10,7 +10,7 @@ use Rattle.id_rule.specs.declared.view.View.{View}
 use Rattle.id_rule.specs.Parts.{part_of, view_with}
 use Rattle.id_rule.proofs.Lists.{part_here, part_else}
 use Rattle.id_shared.specs.Answers.{IsReserved, IsTried, IsLockEnd, IsCollected, IsJoined, IsJoinSeen}
-use Rattle.id_shared.specs.Claims.{IsKeptAt, KeepsClaims, KeepsOthers, KeepsCollected, IsHolding, HasReserved, HasTried, HasLockEnd}
+use Rattle.id_shared.specs.Claims.{IsKeptAt, KeepsClaims, KeepsOthers, KeepsCollected, KeepsErrors, IsHolding, HasReserved, HasTried, HasLockEnd}
 use Rattle.id_shared.specs.declared.answers.Reserve.{Reserve}
 use Rattle.id_shared.specs.declared.answers.Reserve.TheVariants as reserve
 use Rattle.id_shared.specs.declared.answers.TryLock.{TryLock}
@@ -113,6 +113,11 @@ module _ {E : Type 0} where
       kept_to p.view q.view (view_after_loads p.view (words_of a.0 (a.3.0 ++ word ∷ []))) slot (ap (λ z. z.view) a.3.1) (kept_loads p.view (words_of a.0 (a.3.0 ++ word ∷ [])) slot)
   seen_claims slots id p q None a slot = kept_part p.view q.view slot (ap (λ z. part_of z.view slot) a.1)
 
+  -- `join_seen` keeps the errors that are still to hand out
+  pub seen_errors : (slots id : ℕ) (p q : Standing E) (answer : Option ℕ) → IsJoinSeen slots id p answer q → KeepsErrors p q
+  seen_errors slots id p q (Some word) a = (ap (λ z. z.scratch) a.3.1, ap (λ z. z.holder) a.3.1)
+  seen_errors slots id p q None a = (ap (λ z. z.scratch) a.1, ap (λ z. z.holder) a.1)
+
   -- collecting keeps the claims on other slots
   kept_collect : (v : View E) (c : Claim) (log : List E) (slot : ℕ) → slot ≢ c.slot → IsKeptAt v (view_after_collect v c log) slot
   kept_collect v c log slot ne = let w = view_with_value v c log in
@@ -135,6 +140,14 @@ module _ {T E : Type 0} (log : T → List E) (first_id : T → ℕ) (rec : E →
       kept_to p.view q.view (view_after_load v a.0 found) slot (ap (λ z. z.view) a.4)
       (kept_on p.view v (view_after_load v a.0 found) slot (kept_load p.view a.0 word slot) (kept_load v a.0 found slot))
 
+  -- `try_lock` keeps the errors that are still to hand out
+  pub tried_errors : (slots id : ℕ) (p q : Standing E) (answer : TryLock T) → IsTried log first_id rec slots id p answer q → KeepsErrors p q
+  tried_errors slots id p q (try.Locked c x) a = (ap (λ z. z.scratch) a.1.3, ap (λ z. z.holder) a.1.3)
+  tried_errors slots id p q (try.Held word) a = (ap (λ z. z.scratch) a.3, ap (λ z. z.holder) a.3)
+  tried_errors slots id p q (try.Gone word) a = (ap (λ z. z.scratch) a.3, ap (λ z. z.holder) a.3)
+  tried_errors slots id p q try.NoSlot a = (ap (λ z. z.scratch) a.1, ap (λ z. z.holder) a.1)
+  tried_errors slots id p q (try.Again word found) a = (ap (λ z. z.scratch) a.4, ap (λ z. z.holder) a.4)
+
   -- the Hold that `try_lock` gave
   pub tried_holding : (slots id : ℕ) (p q : Standing E) (answer : TryLock T) → IsTried log first_id rec slots id p answer q → HasTried log q answer
   tried_holding slots id p q (try.Locked c x) a = holding q (view_after_load p.view c.slot a.1.0) c (log x) (ap (λ z. z.view) a.1.3)
@@ -152,6 +165,12 @@ module _ {T E : Type 0} (log : T → List E) (first_id : T → ℕ) (rec : E →
   lock_claims slots id p q (lock.Gone word) a slot =
       let xs = words_of a.0 (a.3.0 ++ word ∷ []) in kept_to p.view q.view (view_after_loads p.view xs) slot (ap (λ z. z.view) a.3.1) (kept_loads p.view xs slot)
   lock_claims slots id p q lock.NoSlot a slot = kept_part p.view q.view slot (ap (λ z. part_of z.view slot) a.1)
+
+  -- `lock` keeps the errors that are still to hand out
+  pub lock_errors : (slots id : ℕ) (p q : Standing E) (answer : LockEnd T) → IsLockEnd log first_id rec slots id p answer q → KeepsErrors p q
+  lock_errors slots id p q (lock.Locked c x) a = (ap (λ z. z.scratch) a.1.1.3, ap (λ z. z.holder) a.1.1.3)
+  lock_errors slots id p q (lock.Gone word) a = (ap (λ z. z.scratch) a.3.1, ap (λ z. z.holder) a.3.1)
+  lock_errors slots id p q lock.NoSlot a = (ap (λ z. z.scratch) a.1, ap (λ z. z.holder) a.1)
 
   -- the Hold that `lock` gave
   pub lock_holding : (slots id : ℕ) (p q : Standing E) (answer : LockEnd T) → IsLockEnd log first_id rec slots id p answer q → HasLockEnd log q answer

@@ -1,6 +1,7 @@
 mod Draining
 mod Grown
 mod Holding
+mod Joined
 mod Keeping
 mod Loads
 mod Looks
@@ -9,6 +10,7 @@ mod Parts
 mod Picks
 mod Errands
 mod Pushes
+mod Retries
 mod Scratch
 mod Steady
 mod Tables

@@ -1,13 +1,12 @@
 -- A pass looks for a free node among its own, from the first one on.
-use Rattle.std.proofs.Common.{◌≡◌, ◌≢◌, ℕ, zero, suc, ◌+◌, ◌-◌, ◌*◌, ◌/◌, ◌<◌, ◌≤◌, List, [], ◌∷◌, ◌++◌, length, length-append, refl, sym, ap, ap₂, ◌∙◌, subst, arith, Option, Some, None}
+use Rattle.std.proofs.Common.{◌≡◌, ◌≢◌, ℕ, suc, ◌+◌, ◌-◌, ◌*◌, ◌/◌, ◌<◌, ◌≤◌, List, [], ◌∷◌, ◌++◌, length, length-append, refl, sym, ap, ap₂, ◌∙◌, subst, arith, Some, None}
 use Rattle.std.proofs.Math.Nat.{mul-le-mul_right}
 use Rattle.std.proofs.lemmas.Nat.{div-mul-add}
 use Rattle.id_rule.specs.Changes.{view_with_seen, view_with_hand}
 use Rattle.id_rule.specs.declared.view.Part.{Part}
 use Rattle.id_rule.specs.declared.view.View.{View}
 use Rattle.id_rule.specs.Nodes.{word_at, node_of_word, pass_of_node}
-use Rattle.id_rule.specs.Parts.{HasNumber, AreAll, part_at, part_of}
-use Rattle.id_rule.specs.Steps.{Mine}
+use Rattle.id_rule.specs.Parts.{AreAll, part_at, part_of}
 use Rattle.id_shared.proofs.Parts.{HasPart}
 use Rattle.id_shared.specs.Picking.{HasPicked, HasPickedFirst}
 use Rattle.id_shared.specs.Standing.{IdTable}

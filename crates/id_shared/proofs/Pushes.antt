@@ -1,5 +1,5 @@
 -- The word of a node that is pushed.
-use Rattle.std.proofs.Common.{◌≡◌, ℕ, ◌+◌, ◌*◌, ◌<◌, arith, ap, ◌∙◌}
+use Rattle.std.proofs.Common.{◌≡◌, ℕ, ◌<◌, arith}
 use Rattle.id_rule.specs.Nodes.{node_word, offset_in, error_in}
 
 -- the error's fields in the node's word

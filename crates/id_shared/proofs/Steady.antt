@@ -12,6 +12,10 @@ use Rattle.id_rule.specs.declared.view.Turn.{Turn}
 use Rattle.id_rule.specs.declared.view.View.{View}
 use Rattle.id_rule.specs.Parts.{HasNumber, own_number, part_of, part_at, view_with}
 use Rattle.id_rule.proofs.Lists.{part_here, part_else}
+use Rattle.std.specs.Prelude.{if◌then◌else◌}
+use Rattle.id_rule.specs.Changes.{do_clash, joined_view}
+use Rattle.id_rule.proofs.Seats.{joined_is}
+use Rattle.id_shared.proofs.Joined.{own_joined, has_first, laid_joined, unclaimed_joined}
 use Rattle.id_shared.proofs.Parts.{HasPart}
 use Rattle.id_shared.specs.Steady.{IsUnclaimed, IsLaid, Rooms, IsSteady}
 
@@ -123,4 +127,24 @@ steady_split {T} {E} t t' number sent room me me' w same is parts numbers width 
       wide = subst (λ (z : ℕ). z ≤ room.words) (sym width) st.wide;
       deep = subst (λ (z : ℕ). z ≤ room.pending) (sym total) st.deep;
       deeper = subst (λ (z : ℕ). z ≤ room.dropped) (sym total) st.deeper;
+    }
+
+-- a pass that took in another
+pub steady_joined : {T E : Type 0} (slots slots' number sent number' sent' : ℕ) (room room' : Rooms) (me other : Me (Option T) (View E)) → IsSteady {T = T} {E = E} slots me number sent room
+    → IsSteady {T = T} {E = E} slots' other number' sent' room' → slots ≡ slots' → do_clash me.0.parts other.0.parts other.0.parts ≡ false → IsSteady {T = T} {E = E} slots (joined_view me.0 other.0, []) number sent room
+steady_joined {T} {E} slots slots' number sent number' sent' room room' me other st so same none =
+    let v = me.0 in let w = other.0 in record {
+      hand = ap (λ b. if b then Some (0, 0, 0) else v.hand) none ∙ st.hand;
+      taken = st.taken;
+      carried = refl;
+      laid = λ slot. subst (λ (z : Part E). IsLaid z.turn) (sym (joined_is v.parts w.parts slot)) (laid_joined (part_of v slot).turn (part_of w slot).turn (st.laid slot) (so.laid slot));
+      low = λ slot more. subst IsUnclaimed (sym (joined_is v.parts w.parts slot))
+          (unclaimed_joined (part_of v slot) (part_of w slot) (st.low slot more) (so.low slot (subst (λ (z : ℕ). z ≤ slot) same more)));
+      own = own_joined v.numbers w.numbers (subst (λ (z : ℕ). HasNumber z v.numbers) (sym st.own) st.has) ∙ st.own;
+      has = has_first number v.numbers w.numbers st.has;
+      sent_is = st.sent_is;
+      roomy = st.roomy;
+      wide = st.wide;
+      deep = st.deep;
+      deeper = st.deeper;
     }

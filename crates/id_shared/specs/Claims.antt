@@ -101,3 +101,7 @@ HasPostEnd log q (end.Queued r) = Unit {0}
 HasPostEnd log q (end.Gone word) = Unit {0}
 HasPostEnd log q end.NoSlot = Unit {0}
 HasPostEnd log q end.NoNode = Unit {0}
+
+-- the pass has each Spot, Hold and Owner that one of both had
+abbrev pub JoinsClaims : {E : Type 0} → Standing E → Standing E → Standing E → Type 0
+JoinsClaims p other q = KeepsClaims p q × KeepsClaims other q

@@ -1,5 +1,5 @@
 -- A seat within a call, while it looks for a free node of its pass and pushes it. This project's own choice.
-use Rattle.std.specs.Prelude.{◌≡◌, ◌≢◌, ◌+◌, ◌*◌, ◌<◌, ◌≤◌, ◌++◌, ◌∷◌, ℕ, List, [], length, Option, Some, None}
+use Rattle.std.specs.Prelude.{◌≡◌, ◌≢◌, ◌*◌, ◌<◌, ◌≤◌, ◌++◌, ◌∷◌, ℕ, List, [], length, Option, Some, None}
 use Rattle.atomic_table.specs.Seated.{TableId}
 use Rattle.rpc_model.specs.Gone.{code_in, range_in}
 use Rattle.id_rule.specs.Changes.{view_after_load, view_with_seen, view_with_hand, pushing_view}

@@ -4,7 +4,7 @@ ghost use Rattle.id_rule.specs.declared.view.Receipt.{Receipt};
 ghost use Rattle.id_rule.specs.Accounts.{IsAccounted};
 ghost use Rattle.id_rule.specs.Words.{packed_word};
 ghost use Rattle.id_shared.specs.Answers.{HasGrown, HasLeftOut, IsCollected, IsDestroyed, IsUnlocked};
-ghost use Rattle.id_shared.specs.Claims.{KeepsCollected, KeepsHolding, KeepsOthers, KeepsOwners};
+ghost use Rattle.id_shared.specs.Claims.{KeepsCollected, KeepsErrors, KeepsHolding, KeepsOthers, KeepsOwners};
 ghost use Rattle.id_shared.specs.Standing.{IsPassOf, HasErrorsOf, HasHold, HasOwner, first_id_of};
 
 use crate::answers::{CollectEnd, UnlockEnd};
@@ -122,6 +122,7 @@ impl<T: Tenant> Ids<T> {
         ensures answer { IsCollected T.log T.first_id owner pass.old result pass.new }
         ensures accounted { IsAccounted T.receipt pass.new.view }
         ensures claims { KeepsCollected owner pass.old result pass.new }
+        ensures errors { KeepsErrors pass.old pass.new }
     {
         self.collect_once(pass, owner)
     }

@@ -11,6 +11,7 @@ mod claims;
 mod ending;
 pub mod halves;
 mod ids;
+mod joining;
 mod locking;
 mod opening;
 mod pass;

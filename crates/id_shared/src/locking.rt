@@ -6,7 +6,7 @@ ghost use Rattle.id_rule.specs.Parts.{part_of};
 ghost use Rattle.id_rule.specs.Receipts.{receipts_in};
 ghost use Rattle.id_rule.specs.declared.view.Turn.{Turn};
 ghost use Rattle.id_shared.specs.Answers.{IsLockedFrom, IsTried, IsGone, HasSeenEnd};
-ghost use Rattle.id_shared.specs.Claims.{HasTried, IsHolding, KeepsClaims, KeepsOthers};
+ghost use Rattle.id_shared.specs.Claims.{HasTried, IsHolding, KeepsClaims, KeepsErrors, KeepsOthers};
 ghost use Rattle.id_shared.specs.Standing.{IsPassOf, HasSpot, HasHold, HasOwner, first_id_of};
 ghost use Rattle.id_shared.specs.Views.{with_view, view_with_range, view_lifted, view_laid};
 
@@ -86,6 +86,7 @@ impl<T: Tenant> Ids<T> {
         ensures stays_gone { HasSeenEnd self.now.sizes.slots id pass.old → IsGone result }
         ensures holding { HasTried T.log pass.new result }
         ensures claims { KeepsClaims pass.old pass.new }
+        ensures errors { KeepsErrors pass.old pass.new }
     {
         self.try_once(pass, id)
     }

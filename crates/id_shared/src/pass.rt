@@ -1,5 +1,5 @@
 //! One thread's way to the table.
-ghost use Rattle.std.specs.Prelude.{◌≡◌, ◌++◌, reverse, vec_capacity};
+ghost use Rattle.std.specs.Prelude.{◌≡◌, ◌++◌, [], reverse, vec_capacity, None};
 ghost use Rattle.id_shared.specs.Standing.{Standing};
 ghost use Rattle.id_shared.specs.Steady.{IsSteady, IsScratch};
 
@@ -39,5 +39,13 @@ impl<T: Tenant> Pass<T> {
         ensures words { result.now ≡ self.now.words }
     {
         self.words.as_slice()
+    }
+
+    /// Between two calls a pass has no node in hand and none that it took: the nodes that a call took are free again when it
+    /// returns. This call does nothing, and is a law.
+    pub fn rests(&self)
+        ensures nodes { (self.now.view.hand ≡ None) × (self.now.view.taken ≡ []) }
+    {
+        let _ = &self.seat;
     }
 }

@@ -97,9 +97,7 @@ impl<T: Tenant> Ids<T> {
         if found == word {
             return found;
         }
-        self.table
-            .shared
-            .store::<LetGo>(seat, place as usize, 0);
+        self.table.shared.store::<LetGo>(seat, place as usize, 0);
         found
     }
 

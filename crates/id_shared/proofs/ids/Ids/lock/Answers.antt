@@ -2,7 +2,7 @@ use Rattle.std.proofs.Common.{refl}
 use Rattle.id_shared.proofs.Waits.{waits_more, still_ended, locked_end, gone_end}
 use Rattle.id_shared.proofs.ids.Ids.lock.Goals.{in-Held, in-Again}
 use Rattle.id_shared.specs.declared.answers.LockEnd.TheVariants as lock
-use Rattle.id_shared.proofs.Keeping.{lock_claims, lock_holding}
+use Rattle.id_shared.proofs.Keeping.{lock_claims, lock_errors, lock_holding}
 use Rattle.id_shared.proofs.ids.Ids.lock.Goals as goal
 
 pub returns-in-Locked-clause-answer : goal.returns-in-Locked-clause-answer
@@ -42,3 +42,12 @@ returns-in-Locked-clause-holding g c =
 pub returns-in-Gone-clause-claims : goal.returns-in-Gone-clause-claims
 returns-in-Gone-clause-claims g c =
     lock_claims g.T.Tenant.log g.T.Tenant.first_id g.T.Tenant.receipt c.args.self.now.sizes.slots c.args.id c.args.pass.now c.try_lock.new.pass (lock.Gone c.in-Gone.word) (returns-in-Gone-clause-answer g c)
+
+pub returns-in-Locked-clause-errors : goal.returns-in-Locked-clause-errors
+returns-in-Locked-clause-errors g c =
+    lock_errors g.T.Tenant.log g.T.Tenant.first_id g.T.Tenant.receipt c.args.self.now.sizes.slots c.args.id c.args.pass.now c.try_lock.new.pass (lock.Locked c.in-Locked.hold c.in-Locked.value)
+    (returns-in-Locked-clause-answer g c)
+
+pub returns-in-Gone-clause-errors : goal.returns-in-Gone-clause-errors
+returns-in-Gone-clause-errors g c =
+    lock_errors g.T.Tenant.log g.T.Tenant.first_id g.T.Tenant.receipt c.args.self.now.sizes.slots c.args.id c.args.pass.now c.try_lock.new.pass (lock.Gone c.in-Gone.word) (returns-in-Gone-clause-answer g c)

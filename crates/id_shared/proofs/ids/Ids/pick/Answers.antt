@@ -1,7 +1,7 @@
-use Rattle.std.proofs.Common.{◌≡◌, ◌≢◌, ◌+◌, ◌*◌, ◌<◌, ◌≤◌, ℕ, List, refl, sym, ap, subst, arith, ◌∙◌}
+use Rattle.std.proofs.Common.{◌+◌, ◌*◌, ◌<◌, ◌≤◌, ℕ, List, sym, ap, subst, arith, ◌∙◌}
 use Rattle.id_rule.specs.Nodes.{pass_of_node}
 use Rattle.id_rule.specs.Parts.{HasNumber}
-use Rattle.id_shared.proofs.Picks.{own_node, seeks_more, seeks_found, seeks_none, seeks_empty, seeks_numbers}
+use Rattle.id_shared.proofs.Picks.{own_node, seeks_more, seeks_found, seeks_empty, seeks_numbers}
 use Rattle.id_shared.proofs.Tables.{table_few}
 use Rattle.id_shared.proofs.ids.Ids.pick.Goals as goal
 

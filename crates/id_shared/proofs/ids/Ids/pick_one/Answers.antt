@@ -1,4 +1,4 @@
-use Rattle.std.proofs.Common.{◌≡◌, ◌≢◌, ◌≤◌, refl, sym, ap, ap₂, subst, arith, ◌∙◌, Some}
+use Rattle.std.proofs.Common.{◌≤◌, ap, ap₂, subst, arith, ◌∙◌, Some}
 use mathlib.Core.Logic.{dite}
 use native.Mathlib.Decide.{ℕ_discrete}
 use Rattle.id_rule.specs.Changes.{view_with_hand, view_with_seen}

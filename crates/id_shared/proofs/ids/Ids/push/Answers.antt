@@ -1,4 +1,4 @@
-use Rattle.std.proofs.Common.{◌≡◌, ◌+◌, ◌*◌, ◌<◌, refl, sym, ap, subst, arith, ◌∙◌, Some, None}
+use Rattle.std.proofs.Common.{◌+◌, ◌<◌, sym, ap, subst, arith, ◌∙◌, Some, None}
 use Rattle.rpc_model.specs.Gone.{head_in, first_in}
 use Rattle.id_rule.specs.declared.word.Word.{Word}
 use Rattle.id_rule.specs.Changes.{view_with_hand, view_after_load, pushing_view}
@@ -27,9 +27,11 @@ store-requires-2 g c =
     let t = c.self.inside.table.shared in let s = c.args.seat.now in let r = c.requires.pushing in let node = c.args.node in let n = c.args.word in
     let at = at_node t.table_id s.table_id t.key c.self.inside.sizes c.args.self.now node c.self.view_is c.self.invariant r.of_table r.one r.low in
     let place = c.place_of-place.ensures.place in let low = at.1 in let here = place ∙ ap (λ z. word_at z node) at.2 in let second = r.held.0 in
-    let one = c.store.ensures.2 (node, 0, second) r.held.1 in let u = c.store.new.seat in
-    (c.store.ensures.0 ∙ at.0, omega (arith, place, low),
-    second_write_keeps g.T.Tenant.log g.T.Tenant.first_id g.T.Tenant.receipt t.key _ u.id (c.place_of-place.result + 1) u.me _ c.args.number (ap (λ m. m.0.hand) one) (ap (λ z. z + 1) here))
+    let one = c.store.ensures.2 (node, 0, second) r.held.1 in let u = c.store.new.seat in (
+      c.store.ensures.0 ∙ at.0,
+      omega (arith, place, low),
+      second_write_keeps g.T.Tenant.log g.T.Tenant.first_id g.T.Tenant.receipt t.key _ u.id (c.place_of-place.result + 1) u.me _ c.args.number (ap (λ m. m.0.hand) one) (ap (λ z. z + 1) here),
+    )
 
 pub compare_exchange-found-requires : goal.compare_exchange-found-requires
 compare_exchange-found-requires g c =
@@ -80,8 +82,7 @@ returns-then-found-word-clause-pushed g c =
     let two = c.store-2.ensures.2 (node, sum, second) (ap (λ m. m.0.hand) one) ∙ ap (λ m. (view_with_hand m.0 (Some (node, sum, c.args.number)), m.1)) one in
     let hit = c.if-found-word.true in
     let three = c.compare_exchange-found.ensures.2.0 hit (node, sum, c.args.number) (ap (λ m. m.0.hand) two)
-    ∙ ap (λ m. (pushing_view m.0 record { slot = c.args.slot; first = first_in n; offset = offset_in sum; code = error_in sum; receipt = record { pass = own_number m.0.numbers; number = c.args.number } }, m.1)) two in
-    (
+    ∙ ap (λ m. (pushing_view m.0 record { slot = c.args.slot; first = first_in n; offset = offset_in sum; code = error_in sum; receipt = record { pass = own_number m.0.numbers; number = c.args.number } }, m.1)) two in (
       (λ _. ap (λ m. m.0) three ∙ (λ y. pushing_view v record {
         slot = c.args.slot;
         first = first_in n;
@@ -104,9 +105,11 @@ store-requires-3 g c =
     let two = c.store-2.ensures.2 (node, sum, second) (ap (λ m. m.0.hand) one) ∙ ap (λ m. (view_with_hand m.0 (Some (node, sum, c.args.number)), m.1)) one in
     let miss = c.if-found-word.false in let found = c.compare_exchange-found.result in
     let three = c.compare_exchange-found.ensures.2.1 miss ∙ ap (λ m. (view_after_load m.0 c.args.slot found, m.1)) two in
-    let u = c.compare_exchange-found.new.seat in
-    (c.compare_exchange-found.ensures.0 ∙ c.store-2.ensures.0 ∙ c.store.ensures.0 ∙ at.0, omega (arith, place, low),
-    let_go_keeps g.T.Tenant.log g.T.Tenant.first_id g.T.Tenant.receipt t.key _ u.id c.place_of-place.result u.me (node, sum, c.args.number) (ap (λ m. m.0.hand) three) here)
+    let u = c.compare_exchange-found.new.seat in (
+      c.compare_exchange-found.ensures.0 ∙ c.store-2.ensures.0 ∙ c.store.ensures.0 ∙ at.0,
+      omega (arith, place, low),
+      let_go_keeps g.T.Tenant.log g.T.Tenant.first_id g.T.Tenant.receipt t.key _ u.id c.place_of-place.result u.me (node, sum, c.args.number) (ap (λ m. m.0.hand) three) here,
+    )
 
 pub returns-clause-same : goal.returns-clause-same
 returns-clause-same g c =

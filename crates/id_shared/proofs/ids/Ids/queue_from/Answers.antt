@@ -1,14 +1,12 @@
-use Rattle.std.proofs.Common.{◌≡◌, ◌≢◌, ◌+◌, ◌*◌, ◌<◌, ◌≤◌, ◌++◌, ◌∷◌, [], length, inl, inr, refl, sym, ap, ap₂, subst, arith, ◌∙◌, Some, None, vec_capacity, max, ℕ, List}
+use Rattle.std.proofs.Common.{◌≡◌, ◌+◌, ◌<◌, inr, refl, sym, ap, ap₂, subst, arith, ◌∙◌, None, vec_capacity, max, ℕ, List}
 use Rattle.rpc_model.specs.Gone.{first_in}
 use Rattle.id_rule.specs.Changes.{view_after_load, view_with_hand, part_with_ended_below, part_with_receipt, pushing_view}
-use Rattle.id_rule.specs.declared.view.View.{View}
 use Rattle.id_rule.specs.declared.view.Part.{Part}
 use Rattle.id_rule.specs.Parts.{own_number, HasNumber, part_of}
 use Rattle.id_rule.specs.Words.{ended_below_in}
-use Rattle.id_shared.specs.Standing.{IdTable, Standing}
 use Rattle.id_shared.specs.Steady.{IsSteady}
 use Rattle.id_shared.specs.Views.{first_node, view_after_picks}
-use Rattle.id_shared.proofs.Parts.{HasPart, part_put, part_on_top}
+use Rattle.id_shared.proofs.Parts.{part_on_top}
 use Rattle.id_shared.proofs.Picks.{picks_keep, picked_part}
 use Rattle.id_shared.proofs.Tables.{same_slots, table_few}
 use Rattle.id_rule.specs.declared.view.Notice.{Notice}
@@ -86,10 +84,12 @@ returns-in_default-clause-own g c =
     let number_is = sym st.own ∙ ap (λ z. own_number z.view.numbers) view in
     let first : first_node ids.sizes.nodes number ≡ first_node p.view.width (own_number p.view.numbers) = ap₂ first_node (sym c.requires.own.1) number_is in
     let after : w ≡ view_with_nodes ids.sizes.slots p.view words = λ y. view_after_picks (view y).view ids.sizes.slots (first y) words in
-    let got = c.in_default.ensures.picked in
-    (e.0 ∙ ap (λ z. z.table) view ∙ c.requires.own.0, ap (λ z. z.width) got.2 ∙ k.width ∙ ap (λ z. z.view.width) view ∙ c.requires.own.1,
-    ap (λ z. z.total) got.2 ∙ k.total ∙ ap (λ z. z.view.total) view ∙ c.requires.own.2,
-    subst (λ z. z < ids.sizes.passes) (sym (ap (λ z. own_number z.numbers) got.2 ∙ ap own_number k.numbers ∙ ap (λ z. own_number z.view.numbers) view)) c.requires.own.3)
+    let got = c.in_default.ensures.picked in (
+      e.0 ∙ ap (λ z. z.table) view ∙ c.requires.own.0,
+      ap (λ z. z.width) got.2 ∙ k.width ∙ ap (λ z. z.view.width) view ∙ c.requires.own.1,
+      ap (λ z. z.total) got.2 ∙ k.total ∙ ap (λ z. z.view.total) view ∙ c.requires.own.2,
+      subst (λ z. z < ids.sizes.passes) (sym (ap (λ z. own_number z.numbers) got.2 ∙ ap own_number k.numbers ∙ ap (λ z. own_number z.view.numbers) view)) c.requires.own.3,
+    )
 
 pub returns-in_default-clause-answer : goal.returns-in_default-clause-answer
 returns-in_default-clause-answer g c =
@@ -103,13 +103,17 @@ returns-in_default-clause-answer g c =
     let first : first_node ids.sizes.nodes number ≡ first_node p.view.width (own_number p.view.numbers) = ap₂ first_node (sym c.requires.own.1) number_is in
     let after : w ≡ view_with_nodes ids.sizes.slots p.view words = λ y. view_after_picks (view y).view ids.sizes.slots (first y) words in
     let got = c.in_default.ensures.picked in
-    inr (got.0 ∙ sym c.requires.own.1, got.1, λ y. record {
-      table = (e.0 ∙ ap (λ z. z.table) view) y;
-      view = (got.2 ∙ after) y;
-      words = words;
-      scratch = ap (λ z. z.scratch) view y;
-      holder = ap (λ z. z.holder) view y;
-    })
+    inr (
+      got.0 ∙ sym c.requires.own.1,
+      got.1,
+      λ y. record {
+        table = (e.0 ∙ ap (λ z. z.table) view) y;
+        view = (got.2 ∙ after) y;
+        words = words;
+        scratch = ap (λ z. z.scratch) view y;
+        holder = ap (λ z. z.holder) view y;
+      },
+    )
 
 pub invariant_of-pass-then-found-word : goal.invariant_of-pass-then-found-word
 invariant_of-pass-then-found-word g c =
@@ -151,10 +155,12 @@ returns-then-found-word-clause-own g c =
     let got = c.in-Some.ensures.picked in let node = c.in-Some.node in let picked = got.1.1 in
     let found = c.push-found.result in let x = c.push-found.ensures.same in
     let u = view_after_load w c.args.slot found in
-    let final = c.push-found.ensures.pushed.1 c.if-found-word.true ∙ ap (λ z. view_with_hand (view_after_load z c.args.slot found) None) picked in
-    (x.0 ∙ e.0 ∙ ap (λ z. z.table) view ∙ c.requires.own.0, ap (λ z. z.width) final ∙ k.width ∙ ap (λ z. z.view.width) view ∙ c.requires.own.1,
-    ap (λ z. z.total) final ∙ k.total ∙ ap (λ z. z.view.total) view ∙ c.requires.own.2,
-    subst (λ z. z < ids.sizes.passes) (sym (ap (λ z. own_number z.numbers) final ∙ ap own_number k.numbers ∙ ap (λ z. own_number z.view.numbers) view)) c.requires.own.3)
+    let final = c.push-found.ensures.pushed.1 c.if-found-word.true ∙ ap (λ z. view_with_hand (view_after_load z c.args.slot found) None) picked in (
+      x.0 ∙ e.0 ∙ ap (λ z. z.table) view ∙ c.requires.own.0,
+      ap (λ z. z.width) final ∙ k.width ∙ ap (λ z. z.view.width) view ∙ c.requires.own.1,
+      ap (λ z. z.total) final ∙ k.total ∙ ap (λ z. z.view.total) view ∙ c.requires.own.2,
+      subst (λ z. z < ids.sizes.passes) (sym (ap (λ z. own_number z.numbers) final ∙ ap own_number k.numbers ∙ ap (λ z. own_number z.view.numbers) view)) c.requires.own.3,
+    )
 
 pub returns-then-found-word-clause-answer : goal.returns-then-found-word-clause-answer
 returns-then-found-word-clause-answer g c =
@@ -248,10 +254,12 @@ returns-clause-own g c =
       offset = c.args.offset;
       code = c.args.code;
       receipt = record { pass = own_number z.numbers; number = sent };
-    }) picked in
-    (x.0 ∙ e.0 ∙ ap (λ z. z.table) view ∙ c.requires.own.0, ap (λ z. z.width) final ∙ k.width ∙ ap (λ z. z.view.width) view ∙ c.requires.own.1,
-    ap (λ z. z.total) final ∙ k.total ∙ ap (λ z. z.view.total) view ∙ c.requires.own.2,
-    subst (λ z. z < ids.sizes.passes) (sym (ap (λ z. own_number z.numbers) final ∙ ap own_number k.numbers ∙ ap (λ z. own_number z.view.numbers) view)) c.requires.own.3)
+    }) picked in (
+      x.0 ∙ e.0 ∙ ap (λ z. z.table) view ∙ c.requires.own.0,
+      ap (λ z. z.width) final ∙ k.width ∙ ap (λ z. z.view.width) view ∙ c.requires.own.1,
+      ap (λ z. z.total) final ∙ k.total ∙ ap (λ z. z.view.total) view ∙ c.requires.own.2,
+      subst (λ z. z < ids.sizes.passes) (sym (ap (λ z. own_number z.numbers) final ∙ ap own_number k.numbers ∙ ap (λ z. own_number z.view.numbers) view)) c.requires.own.3,
+    )
 
 pub returns-clause-answer : goal.returns-clause-answer
 returns-clause-answer g c =
