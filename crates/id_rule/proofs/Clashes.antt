@@ -1,5 +1,5 @@
 -- No two passes have a claim on one slot, so that one which takes in another has the claims of both.
-use Rattle.std.proofs.Common.{⊎_elim, inl, inr, ◌⊎◌, ◌≡◌, ◌≢◌, ℕ, ◌<◌, ◌≤◌, eq-eqb, ne_eqb, Bool, true, false, true≢false, List, [], ◌∷◌, length, refl, sym, ap, ap₂, ◌∙◌, subst, arith, Option, Some, None}
+use Rattle.std.proofs.Common.{⊎_elim, inl, inr, ◌⊎◌, ◌≡◌, ◌≢◌, ℕ, ◌<◌, ◌≤◌, ne_eqb, Bool, true, false, true≢false, List, [], ◌∷◌, refl, sym, ap, ap₂, ◌∙◌, subst, arith, Option, Some, None}
 use Rattle.std.specs.Prelude.{◌&&◌, ◌||◌, is_some, if◌then◌else◌}
 use Rattle.std.proofs.lemmas.Option.{none-some}
 use mathlib.Core.Logic.{dite}
@@ -13,7 +13,6 @@ use Rattle.id_rule.specs.declared.view.Part.{Part}
 use Rattle.id_rule.specs.declared.view.Receipt.{Receipt}
 use Rattle.id_rule.specs.declared.view.View.{View}
 use Rattle.id_rule.specs.Parts.{blank_part, part_at, part_of}
-use Rattle.id_rule.specs.Phases.{Phase, IsPart}
 use Rattle.id_rule.specs.Rule.{IsKept}
 use Rattle.id_rule.proofs.Single.{one_spot, one_hold, one_owner}
 

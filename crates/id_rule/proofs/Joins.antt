@@ -10,8 +10,8 @@ use Rattle.id_rule.specs.Nodes.{Place, idle, in_hand, in_queue, on_list, numbers
 use Rattle.id_rule.specs.Receipts.{History, IsNoticed, HasSent, receipts_of_range}
 use Rattle.id_rule.specs.Parts.{HasNumber, blank_part, part_of, HasLog, spent_view, own_number, AreAll}
 use Rattle.id_rule.specs.Changes.{either_of, joined_part, joined_view}
-use Rattle.id_rule.specs.Phases.{Phase, vacant, reserved, free, locked, ended, taken, retired, slot_word, home_value, IsPart, IsSeated, IsSound}
-use Rattle.id_rule.specs.Rule.{HasInHand, IsNumbered, IsChained, IsTold, IsInformed, IsKept}
+use Rattle.id_rule.specs.Phases.{Phase, vacant, reserved, free, locked, ended, taken, retired, IsPart, IsSeated}
+use Rattle.id_rule.specs.Rule.{HasInHand, IsNumbered, IsInformed, IsKept}
 use Rattle.id_rule.specs.declared.rule.Sizes.{Sizes}
 use Rattle.id_rule.specs.declared.view.Part.{Part}
 use Rattle.id_rule.specs.declared.view.View.{View}
@@ -22,72 +22,9 @@ use Rattle.id_rule.proofs.Receipts.{at_append, numbers_append}
 use Rattle.id_rule.proofs.Seats.{counts_join, seat_now, renamed, now_id, now_other, now_third, seat_low, seat_both, seat_spent, seat_third, list_both, knew_joined, before_both, within_both}
 use Rattle.id_rule.proofs.Seats.{joined_is}
 use Rattle.id_rule.proofs.Seats.{has_joined, all_joined}
-
--- the history, with the seats after the join
-abbrev pub ghost_now : {E : Type 0} → ℕ → ℕ → History E → History E
-ghost_now other id g = record g { ender = λ s f. seat_now other id (g.ender s f) }
+use Rattle.id_rule.proofs.Renaming.{ghost_now, face_now, home_now, sound_now, seated_now, chained_now, told_now}
 
 module _ {T E : Type 0} (log : T → List E) (first_id : T → ℕ) (rec : E → Option Receipt) (other id : ℕ) (apart : other ≢ id) where
-  -- the join leaves the word
-  face_now : (ph : Phase T E) → slot_word (renamed other id ph) ≡ slot_word ph
-  face_now (vacant f) = refl
-  face_now (reserved f r who) = refl
-  face_now (free r x) = refl
-  face_now (locked r who l qs got) = refl
-  face_now (ended r x) = refl
-  face_now (taken r l) = refl
-  face_now (retired f) = refl
-
-  -- the join leaves what lies in the slot
-  home_now : (ph : Phase T E) → home_value (renamed other id ph) ≡ home_value ph
-  home_now (vacant f) = refl
-  home_now (reserved f r who) = refl
-  home_now (free r x) = refl
-  home_now (locked r who l qs got) = refl
-  home_now (ended r x) = refl
-  home_now (taken r l) = refl
-  home_now (retired f) = refl
-
-  -- the join leaves the numbers
-  sound_now : (slot : ℕ) (ph : Phase T E) → IsSound first_id slot ph → IsSound first_id slot (renamed other id ph)
-  sound_now slot (vacant f) h = h
-  sound_now slot (reserved f r who) h = h
-  sound_now slot (free r x) h = h
-  sound_now slot (locked r who l qs got) h = h
-  sound_now slot (ended r x) h = h
-  sound_now slot (taken r l) h = h
-  sound_now slot (retired f) h = h
-
-  -- the seats after the join are among the same seats
-  seated_now : (n : ℕ) (ph : Phase T E) → id < n → IsSeated ph n → IsSeated (renamed other id ph) n
-  seated_now n (vacant f) low h = tt
-  seated_now n (reserved f r who) low h = seat_low other id apart who n low h
-  seated_now n (free r x) low h = seat_low other id apart r.owner n low h
-  seated_now n (locked r who l qs got) low h = (seat_low other id apart r.owner n low h.0, seat_low other id apart who n low h.1)
-  seated_now n (ended r x) low h = seat_low other id apart r.owner n low h
-  seated_now n (taken r l) low h = seat_low other id apart r.owner n low h
-  seated_now n (retired f) low h = tt
-
-  -- the join leaves the chain
-  chained_now : (k : ℕ) (place : ℕ → Place) (slot : ℕ) (ws : List ℕ) (ph : Phase T E) → IsChained k place slot ws ph → IsChained k place slot ws (renamed other id ph)
-  chained_now k place slot ws (vacant f) h = h
-  chained_now k place slot ws (reserved f r who) h = h
-  chained_now k place slot ws (free r x) h = h
-  chained_now k place slot ws (locked r who l qs got) h = h
-  chained_now k place slot ws (ended r x) h = h
-  chained_now k place slot ws (taken r l) h = h
-  chained_now k place slot ws (retired f) h = h
-
-  -- the join leaves the receipts of the slot
-  told_now : (g : History E) (slot : ℕ) (ph : Phase T E) → IsTold log rec g slot ph → IsTold log rec (ghost_now other id g) slot (renamed other id ph)
-  told_now g slot (vacant f) h = h
-  told_now g slot (reserved f r who) h = h
-  told_now g slot (free r x) h = h
-  told_now g slot (locked r who l qs got) h = h
-  told_now g slot (ended r x) h = h
-  told_now g slot (taken r l) h = h
-  told_now g slot (retired f) h = h
-
   -- both parts in one
   fits_both : (ph : Phase T E) (p q : Part E) → IsPart log ph id p → IsPart log ph other q → IsPart log (renamed other id ph) id (joined_part p q)
   fits_both (vacant f) p q a b = record {

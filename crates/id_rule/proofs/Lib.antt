@@ -10,10 +10,12 @@ pub mod Lifting
 pub mod Lists
 pub mod Logs
 pub mod Nodes
+pub mod Numbering
 pub mod Openings
 pub mod Owning
 pub mod Posting
 pub mod Receipts
+pub mod Renaming
 pub mod Reserving
 pub mod Seats
 pub mod Single

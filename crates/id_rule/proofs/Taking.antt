@@ -27,7 +27,6 @@ use Rattle.id_rule.proofs.Seats.{all_joined, all_reversed}
 use Rattle.id_rule.proofs.Steps.{tells_same, changed_same, slot_moves}
 use Rattle.id_rule.proofs.Lists.{yes_if, no_if, bare}
 use Rattle.id_rule.proofs.Turns.{locked_word}
-use Rattle.std.proofs.lemmas.Option.{same_Some}
 use Rattle.id_rule.specs.declared.rule.Sizes.{Sizes}
 use Rattle.id_rule.specs.declared.view.View.{View}
 use Rattle.id_rule.specs.declared.view.Part.{Part}

@@ -1,17 +1,10 @@
 -- Errors are known as they were queued.
-use Rattle.std.proofs.Common.{⊎_elim, inl, inr, ◌⊎◌, ◌≡◌, ℕ, ◌*◌, ◌<◌, ◌≤◌, List, [], ◌∷◌, refl, sym, ap, ap₂, ◌∙◌, subst, Option, Some, None}
-use mathlib.Core.Option.{some}
-use lib.ListN.{get_elem?}
-use Rattle.atomic_table.specs.Table.{State}
-use Rattle.id_rule.specs.declared.rule.Sizes.{Sizes}
+use Rattle.std.proofs.Common.{⊎_elim, ℕ, List, [], ◌∷◌, sym, ap, ◌∙◌, subst, Option}
 use Rattle.id_rule.specs.declared.view.Notice.{Notice}
-use Rattle.id_rule.specs.declared.view.Queued.{Queued}
 use Rattle.id_rule.specs.declared.view.Receipt.{Receipt}
-use Rattle.id_rule.specs.declared.view.View.{View}
 use Rattle.id_rule.specs.Laws.{HasNotice, ErrorsAreAsQueued}
 use Rattle.id_rule.specs.Parts.{AreAll}
 use Rattle.id_rule.specs.Receipts.{History, IsNoticed}
-use Rattle.id_rule.specs.Rule.{IsKept}
 
 -- an error that is known was queued so
 known : {E : Type 0} (g : History E) (e : Notice) (xs : List Notice) → HasNotice e xs → AreAll (IsNoticed g) xs → IsNoticed g e
