@@ -1,18 +1,21 @@
 -- Which claims a pass has after `unlock` and `destroy`.
-use Rattle.std.proofs.Common.{◌≡◌, ℕ, ◌+◌, true, false, List, [], ◌∷◌, ◌++◌, refl, sym, ap, ◌∙◌, Option, Some}
+use Rattle.std.proofs.Common.{◌≡◌, ℕ, ◌+◌, true, false, List, [], ◌∷◌, ◌++◌, append-nil, refl, sym, ap, ◌∙◌, Option, Some}
 use Rattle.std.specs.Prelude.{reverse}
 use Rattle.std.proofs.lemmas.List.{reverse-append}
 use mathlib.Core.Logic.{dite}
 use native.Mathlib.Decide.{ℕ_discrete}
-use Rattle.id_rule.specs.Changes.{turn_with_out, turn_with_waits, part_with_end, part_without_hold}
+use Rattle.id_rule.specs.Changes.{turn_at, turn_with_out, turn_with_waits, part_with_end, part_without_hold}
 use Rattle.id_rule.specs.declared.view.Part.{Part}
 use Rattle.id_rule.specs.declared.view.Queued.{Queued}
 use Rattle.id_rule.specs.declared.view.Receipt.{Receipt}
 use Rattle.id_rule.specs.declared.view.View.{View}
-use Rattle.id_rule.specs.Nodes.{receipts_of}
+use Rattle.id_rule.specs.declared.view.Turn.{Turn}
+use Rattle.id_rule.specs.Nodes.{receipts_of, numbers_of}
+use Rattle.id_rule.specs.Receipts.{occurrences, receipts_in}
+use Rattle.std.proofs.lemmas.Option.{same_Some}
 use Rattle.id_rule.specs.Parts.{part_of}
-use Rattle.id_shared.specs.Answers.{IsUnlocked, IsDestroyed}
-use Rattle.id_shared.specs.Claims.{KeepsOthers, KeepsOwners, KeepsHolding}
+use Rattle.id_shared.specs.Answers.{IsUnlocked, IsDestroyed, HasGrown, HasLeftOut}
+use Rattle.id_shared.specs.Claims.{IsHolding, IsHoldingWith, KeepsOthers, KeepsOwners, KeepsHolding}
 use Rattle.id_shared.specs.declared.answers.Posted.{Posted}
 use Rattle.id_shared.specs.declared.answers.UnlockEnd.{UnlockEnd}
 use Rattle.id_shared.specs.declared.answers.UnlockEnd.TheVariants as unlock
@@ -86,3 +89,19 @@ module _ {T E : Type 0} (log : T → List E) (rec : E → Option Receipt) (c : C
   pub destroyed_others : IsDestroyed log rec c x p q → KeepsOthers c.slot p q
   destroyed_others a slot ne = let w = view_after_destroy p.view c (log x) a.0 a.2.0 in
       kept_to p.view q.view w slot (ap (λ z. z.view) a.2.2) (kept_part p.view w slot ((destroyed_part p.view c (log x) a.0 a.2.0).there slot ne))
+
+module _ {E : Type 0} (rec : E → Option Receipt) (q : Standing E) (c : Claim) where
+  -- a log that hasn't changed since the lock has grown by nothing
+  pub grown_none : (log : List E) → IsHolding q c log → HasGrown rec q c log
+  grown_none log h t is = let same = same_Some (turn_at false log) t (sym h.1 ∙ is) in
+      ([], append-nil t.log ∙ ap (λ (z : Turn E). z.log) (sym same), λ a n. ap (λ (z : List Receipt). occurrences n (numbers_of a z)) h.2)
+
+  -- the errors of the first Pending, of which the log has none, are all left out
+  pub left_out_all : (log : List E) → IsHoldingWith q c log (receipts_in_errors q.scratch) → HasLeftOut rec q c log []
+  left_out_all log h t is = let same = same_Some (turn_at false log) t (sym h.1 ∙ is) in
+      ([], append-nil t.log ∙ ap (λ (z : Turn E). z.log) (sym same), λ a n. ap (λ (z : List Receipt). occurrences n (numbers_of a z)) h.2)
+
+  -- a log with each receipt that was handed out since the lock, in order
+  pub grown_all : (old new log : List E) → old ++ new ≡ log → IsHoldingWith q c old (receipts_in rec new) → HasGrown rec q c log
+  grown_all old new log whole h t is = let same = same_Some (turn_at false old) t (sym h.1 ∙ is) in
+      (new, ap (λ (z : Turn E). z.log ++ new) (sym same) ∙ whole, λ a n. ap (λ (z : List Receipt). occurrences n (numbers_of a z)) h.2)

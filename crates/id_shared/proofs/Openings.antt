@@ -6,7 +6,7 @@ use lib.ListN.{get_elem?}
 use Rattle.id_rule.specs.Nodes.{word_at}
 use Rattle.id_rule.specs.Parts.{own_number}
 use Rattle.id_shared.specs.Opening.{IsNewPass, IsRoot, IsOpened, AreOpened}
-use Rattle.id_shared.specs.Standing.{IdTable, Standing, IsPassOf}
+use Rattle.id_shared.specs.Standing.{IdTable, Standing, IsAtRest}
 
 -- the words of the slots come first
 pub slots_first : (n slot : ℕ) (more : List ℕ) → slot < n → get_elem? (replicate n 1073741824 ++ more) slot ≡ some 1073741824
@@ -69,7 +69,14 @@ module _ {E : Type 0} where
   opened_push ids n (q ∷ qs) p k e all one = (all.0, opened_push ids (n + 1) qs p k (let h = e in omega arith) all.1 one)
 
   -- the opened passes are the table's
-  pub opened_own : (ids : IdTable) (n : ℕ) (ps : List (Standing E)) → AreOpened ids n ps → All (IsPassOf ids) ps
+  pub opened_own : (ids : IdTable) (n : ℕ) (ps : List (Standing E)) → AreOpened ids n ps → All (IsAtRest ids) ps
   opened_own ids n [] all k d h = absurd (omega arith)
-  opened_own ids n (p ∷ ps) all zero d h = all.0.0
+  opened_own ids n (p ∷ ps) all zero d h = (all.0.0, all.0.6)
   opened_own ids n (p ∷ ps) all (suc k) d h = opened_own ids (n + 1) ps all.1 k d (omega arith)
+
+-- what holds for each of a list and for one more holds for each of both together
+pub all_push : {X : Type 0} (P : X → Type 0) (xs : List X) (x : X) → All P xs → P x → All P (xs ++ x ∷ [])
+all_push P [] x h p zero d k = p
+all_push P [] x h p (suc n) d k = absurd (omega arith)
+all_push P (y ∷ ys) x h p zero d k = h zero d (omega arith)
+all_push P (y ∷ ys) x h p (suc n) d k = all_push P ys x (λ m e j. h (suc m) e (omega arith)) p n d (omega arith)

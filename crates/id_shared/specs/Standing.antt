@@ -73,3 +73,7 @@ module _ {E : Type 0} where
   -- the errors that the pass has still to hand out were dropped
   abbrev pub HasDropped : Standing E → Type 0
   HasDropped p = (p.scratch ≡ []) ⊎ (p.holder ≡ None)
+
+  -- the pass is of this table, and has no error to hand out
+  abbrev pub IsAtRest : IdTable → Standing E → Type 0
+  IsAtRest ids p = IsPassOf ids p × (p.scratch ≡ [])

@@ -1,6 +1,6 @@
 //! Opening a table.
 ghost use Rattle.std.specs.Prelude.{◌≡◌, ◌≤◌, ◌+◌, ◌*◌, [], length, vec_capacity, All, IfOk, None};
-ghost use Rattle.id_shared.specs.Standing.{IsPassOf};
+ghost use Rattle.id_shared.specs.Standing.{IsAtRest};
 ghost use Rattle.id_shared.specs.Opening.{IsRow, IsNewPass, IsNewSeat, IsRoot, AreOpened};
 
 use crate::ids::Ids;
@@ -77,7 +77,7 @@ impl<T: Tenant> Ids<T> {
         requires passes { (1 ≤ passes) × (passes ≡ self.now.sizes.passes) }
         requires root { IsRoot self.now 1 root }
         ensures passes { IfOk result (λ ps. (length ps.items ≡ passes) × AreOpened self.now 0 ps.items) }
-        ensures own { IfOk result (λ ps. All (IsPassOf self.now) ps.items) }
+        ensures own { IfOk result (λ ps. All (IsAtRest self.now) ps.items) }
     {
         let Ok(mut all) = Vec::with_capacity(alloc, passes as usize) else {
             return Err(NoMemory);
@@ -113,7 +113,7 @@ impl<T: Tenant + Drop> Ids<T> {
         requires nodes { (1 ≤ nodes) × (passes * nodes ≤ 65535) }
         ensures sizes { IfOk result (λ r. (r.0.sizes.slots ≡ slots) × (r.0.sizes.passes ≡ passes) × (r.0.sizes.nodes ≡ nodes)) }
         ensures passes { IfOk result (λ r. (length r.1.items ≡ passes) × AreOpened r.0 0 r.1.items) }
-        ensures own { IfOk result (λ r. All (IsPassOf r.0) r.1.items) }
+        ensures own { IfOk result (λ r. All (IsAtRest r.0) r.1.items) }
     {
         let row = words(alloc, slots, passes * nodes)?;
         let sizes = Sizes {
