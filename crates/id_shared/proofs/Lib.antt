@@ -1,14 +1,15 @@
 mod Draining
+mod Errands
 mod Grown
 mod Holding
 mod Joined
 mod Keeping
 mod Loads
 mod Looks
+mod Noted
 mod Openings
 mod Parts
 mod Picks
-mod Errands
 mod Pushes
 mod Retries
 mod Scratch

@@ -27,6 +27,8 @@ pub use ids::Ids;
 pub use pass::Pass;
 
 #[cfg(test)]
+mod post_tests;
+#[cfg(test)]
 mod race_tests;
 #[cfg(test)]
 mod tests;

@@ -48,7 +48,7 @@ pub(crate) enum Told {
 }
 
 // The last of the passes.
-pub(crate) fn next(ids: &Ids<Tally>, passes: &mut Vec<Pass<Tally>>) -> Option<Pass<Tally>>
+pub(crate) fn next<T: Tenant>(ids: &Ids<T>, passes: &mut Vec<Pass<T>>) -> Option<Pass<T>>
     requires own { All (IsAtRest ids.now) passes.old.items }
     ensures own { All (IsAtRest ids.now) passes.new.items }
     ensures fewer { IfSome result (λ _. vec_len passes.new < vec_len passes.old) }
@@ -75,7 +75,7 @@ pub(crate) fn tells_reserve(ids: &Ids<Tally>, pass: &mut Pass<Tally>, range: u32
 }
 
 // Takes all dropped errors.
-pub(crate) fn forgets(ids: &Ids<Tally>, pass: &mut Pass<Tally>)
+pub(crate) fn forgets<T: Tenant>(ids: &Ids<T>, pass: &mut Pass<T>)
     requires own { IsPassOf ids.now pass.old }
     requires dropped { HasDropped pass.old }
     ensures own { IsAtRest ids.now pass.new }
