@@ -14,7 +14,7 @@ use Rattle.id_rule.specs.declared.view.Receipt.{Receipt}
 use Rattle.id_rule.specs.declared.view.Part.{Part}
 use Rattle.id_rule.specs.declared.view.View.{View}
 use Rattle.id_rule.proofs.Receipts.{at_append}
-use Rattle.id_rule.proofs.Turns.{yes_if, no_if, bare}
+use Rattle.id_rule.proofs.Lists.{yes_if, no_if, bare}
 
 -- another value at one slot and range
 abbrev pub keyed : {X : Type 0} → ℕ → ℕ → X → (ℕ → ℕ → X) → ℕ → ℕ → X
@@ -45,14 +45,7 @@ key_cases slot first s f = dite (ℕ_discrete s slot)
 
 -- what was told, when a range ended with this log and these were dropped
 abbrev pub over_with : {E : Type 0} → History E → ℕ → ℕ → List E → List Receipt → ℕ → History E
-over_with g slot first log lost by = record {
-  numbered = g.numbered;
-  last = keyed slot first (Some log) g.last;
-  lost = keyed slot first lost g.lost;
-  ender = keyed slot first by g.ender;
-  sent = g.sent;
-  width = g.width;
-}
+over_with g slot first log lost by = record g { last = keyed slot first (Some log) g.last; lost = keyed slot first lost g.lost; ender = keyed slot first by g.ender }
 
 -- receipts marked with a range are of it
 at_range : (first : ℕ) (rs : List Receipt) → receipts_of_range first (receipts_for first rs) ≡ rs

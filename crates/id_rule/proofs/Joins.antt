@@ -1,5 +1,5 @@
 -- A pass takes in another: the seat of what that one had is now its own.
-use Rattle.std.proofs.Common.{⊎_elim, ◌≡◌, ◌≢◌, ℕ, ◌+◌, ◌<◌, List, [], ◌∷◌, ◌++◌, length, set, length-set, refl, sym, ap, ap₂, ◌∙◌, subst, arith, Option}
+use Rattle.std.proofs.Common.{⊎_elim, ◌≡◌, ◌≢◌, ℕ, ◌+◌, ◌<◌, ◌≤◌, List, [], ◌++◌, length, set, length-set, refl, sym, ap, ap₂, ◌∙◌, subst, arith, Option}
 use Rattle.std.proofs.Common.{Some, None}
 use mathlib.Core.Option.{some}
 use lib.ListN.{get_elem?}
@@ -7,85 +7,24 @@ use Rattle.atomic_table.specs.Table.{Joins}
 use Rattle.atomic_table.proofs.Lists.{set_else}
 use Rattle.id_rule.specs.declared.view.Receipt.{Receipt}
 use Rattle.id_rule.specs.Nodes.{Place, idle, in_hand, in_queue, on_list, numbers_of, pass_of_node, IsTakenList, IsPlaced, IsNode}
-use Rattle.id_rule.specs.Receipts.{History, HasSent, receipts_of_range}
-use Rattle.id_rule.specs.Parts.{HasNumber, blank_part, part_of, HasLog, spent_view, own_number}
+use Rattle.id_rule.specs.Receipts.{History, IsNoticed, HasSent, receipts_of_range}
+use Rattle.id_rule.specs.Parts.{HasNumber, blank_part, part_of, HasLog, spent_view, own_number, AreAll}
 use Rattle.id_rule.specs.Changes.{either_of, joined_part, joined_view}
-use Rattle.id_rule.specs.Phases.{Phase, vacant, reserved, free, locked, ended, taken, retired, slot_word, home_value, IsPart, IsSeated, IsSound}
-use Rattle.id_rule.specs.Rule.{HasInHand, IsNumbered, IsChained, IsTold, IsInformed, IsKept}
+use Rattle.id_rule.specs.Phases.{Phase, vacant, reserved, free, locked, ended, taken, retired, IsPart, IsSeated}
+use Rattle.id_rule.specs.Rule.{HasInHand, IsNumbered, IsInformed, IsKept}
 use Rattle.id_rule.specs.declared.rule.Sizes.{Sizes}
 use Rattle.id_rule.specs.declared.view.Part.{Part}
 use Rattle.id_rule.specs.declared.view.View.{View}
-use Rattle.id_rule.proofs.Lists.{views_after, there_below}
+use Rattle.std.specs.Prelude.{if◌then◌else◌}
+use Rattle.id_rule.proofs.Clashes.{views_apart}
+use Rattle.id_rule.proofs.Lists.{views_after, there_below, all_map}
 use Rattle.id_rule.proofs.Receipts.{at_append, numbers_append}
 use Rattle.id_rule.proofs.Seats.{counts_join, seat_now, renamed, now_id, now_other, now_third, seat_low, seat_both, seat_spent, seat_third, list_both, knew_joined, before_both, within_both}
 use Rattle.id_rule.proofs.Seats.{joined_is}
-use Rattle.id_rule.proofs.Seats.{has_joined, each_both, each_map}
-
--- the history, with the seats after the join
-abbrev pub ghost_now : {E : Type 0} → ℕ → ℕ → History E → History E
-ghost_now other id g = record { numbered = g.numbered; last = g.last; lost = g.lost; ender = λ s f. seat_now other id (g.ender s f); sent = g.sent; width = g.width }
+use Rattle.id_rule.proofs.Seats.{has_joined, all_joined}
+use Rattle.id_rule.proofs.Renaming.{ghost_now, face_now, home_now, sound_now, seated_now, chained_now, told_now}
 
 module _ {T E : Type 0} (log : T → List E) (first_id : T → ℕ) (rec : E → Option Receipt) (other id : ℕ) (apart : other ≢ id) where
-  -- the join leaves the word
-  face_now : (ph : Phase T E) → slot_word (renamed other id ph) ≡ slot_word ph
-  face_now (vacant f) = refl
-  face_now (reserved f r who) = refl
-  face_now (free r x) = refl
-  face_now (locked r who l qs got) = refl
-  face_now (ended r x) = refl
-  face_now (taken r l) = refl
-  face_now (retired f) = refl
-
-  -- the join leaves what lies in the slot
-  home_now : (ph : Phase T E) → home_value (renamed other id ph) ≡ home_value ph
-  home_now (vacant f) = refl
-  home_now (reserved f r who) = refl
-  home_now (free r x) = refl
-  home_now (locked r who l qs got) = refl
-  home_now (ended r x) = refl
-  home_now (taken r l) = refl
-  home_now (retired f) = refl
-
-  -- the join leaves the numbers
-  sound_now : (slot : ℕ) (ph : Phase T E) → IsSound first_id slot ph → IsSound first_id slot (renamed other id ph)
-  sound_now slot (vacant f) h = h
-  sound_now slot (reserved f r who) h = h
-  sound_now slot (free r x) h = h
-  sound_now slot (locked r who l qs got) h = h
-  sound_now slot (ended r x) h = h
-  sound_now slot (taken r l) h = h
-  sound_now slot (retired f) h = h
-
-  -- the seats after the join are among the same seats
-  seated_now : (n : ℕ) (ph : Phase T E) → id < n → IsSeated ph n → IsSeated (renamed other id ph) n
-  seated_now n (vacant f) low h = tt
-  seated_now n (reserved f r who) low h = seat_low other id apart who n low h
-  seated_now n (free r x) low h = seat_low other id apart r.owner n low h
-  seated_now n (locked r who l qs got) low h = (seat_low other id apart r.owner n low h.0, seat_low other id apart who n low h.1)
-  seated_now n (ended r x) low h = seat_low other id apart r.owner n low h
-  seated_now n (taken r l) low h = seat_low other id apart r.owner n low h
-  seated_now n (retired f) low h = tt
-
-  -- the join leaves the chain
-  chained_now : (k : ℕ) (place : ℕ → Place) (slot : ℕ) (ws : List ℕ) (ph : Phase T E) → IsChained k place slot ws ph → IsChained k place slot ws (renamed other id ph)
-  chained_now k place slot ws (vacant f) h = h
-  chained_now k place slot ws (reserved f r who) h = h
-  chained_now k place slot ws (free r x) h = h
-  chained_now k place slot ws (locked r who l qs got) h = h
-  chained_now k place slot ws (ended r x) h = h
-  chained_now k place slot ws (taken r l) h = h
-  chained_now k place slot ws (retired f) h = h
-
-  -- the join leaves the receipts of the slot
-  told_now : (g : History E) (slot : ℕ) (ph : Phase T E) → IsTold log rec g slot ph → IsTold log rec (ghost_now other id g) slot (renamed other id ph)
-  told_now g slot (vacant f) h = h
-  told_now g slot (reserved f r who) h = h
-  told_now g slot (free r x) h = h
-  told_now g slot (locked r who l qs got) h = h
-  told_now g slot (ended r x) h = h
-  told_now g slot (taken r l) h = h
-  told_now g slot (retired f) h = h
-
   -- both parts in one
   fits_both : (ph : Phase T E) (p q : Part E) → IsPart log ph id p → IsPart log ph other q → IsPart log (renamed other id ph) id (joined_part p q)
   fits_both (vacant f) p q a b = record {
@@ -122,7 +61,7 @@ module _ {T E : Type 0} (log : T → List E) (first_id : T → ℕ) (rec : E →
     spot = ap₂ either_of a.spot b.spot;
     hold = ap₂ either_of a.hold b.hold ∙ seat_both (r.first, r.size) other id apart who;
     owner = ap₂ either_of a.owner b.owner ∙ seat_both (r.first, r.size) other id apart r.owner;
-    knows = within_both r.first l p.logs q.logs a.knows b.knows;
+    knows = within_both r.first l.log p.logs q.logs a.knows b.knows;
     turn = ap₂ either_of a.turn b.turn ∙ seat_both l other id apart who;
     taking = ap₂ either_of a.taking b.taking;
     ended_below = omega (arith, a.ended_below, b.ended_below);
@@ -324,8 +263,9 @@ module _ {T E : Type 0} (log : T → List E) (first_id : T → ℕ) (rec : E →
 -- joining a pass keeps the rule
 pub join_keeps : {T E : Type 0} (log : T → List E) (first_id : T → ℕ) (rec : E → Option Receipt) (sizes : Sizes) (id other : ℕ) (v w : View E) → w.hand ≡ None → w.taken ≡ []
     → HasNumber (own_number v.numbers) v.numbers
+    → ((slot : ℕ) → sizes.slots ≤ slot → ((part_of w slot).spot ≡ None) × ((part_of w slot).hold ≡ None) × ((part_of w slot).owner ≡ None))
     → Joins (IsKept log first_id rec sizes) id v other w (joined_view v w) (spent_view)
-join_keeps {T} {E} log first_id rec sizes id other v w no_hand no_list own_one s kept at apart at_other =
+join_keeps {T} {E} log first_id rec sizes id other v w no_hand no_list own_one low_claims s kept at apart at_other =
     let k = sizes.slots in let place = kept.place in let g : History E = kept.history in
     let x : View E = joined_view v w in let y : View E = spent_view in
     let at2 : get_elem? s.views other ≡ some w = sym (set_else s.views id other x apart) ∙ at_other in
@@ -334,6 +274,8 @@ join_keeps {T} {E} log first_id rec sizes id other v w no_hand no_list own_one s
     let idle_hand : HasInHand k s.words place other None = subst (HasInHand k s.words place other) no_hand (kept.hands other w at2) in
     let idle_list : IsTakenList k s.words place other [] = subst (IsTakenList k s.words place other) no_list (kept.lists other w at2) in
     let below = there_below s.views id v at in
+    let no_clash = views_apart log first_id rec sizes s id other v w kept at at2 apart low_claims in
+    let mine : HasInHand k s.words place id x.hand = subst (λ b. HasInHand k s.words place id (if b then Some (0, 0, 0) else v.hand)) (sym no_clash) (kept.hands id v at) in
     record {
       place = place;
       history = ghost_now other id g;
@@ -344,6 +286,9 @@ join_keeps {T} {E} log first_id rec sizes id other v w no_hand no_list own_one s
       sents = views_both log first_id rec other id apart s.views x y (λ _ u. HasSent g.sent u.numbers u.sent) (counts_join g.sent v.numbers w.numbers v.sent own_one (kept.sents id v at)) tt
           (λ by u a b e. kept.sents by u e);
       placed = λ m. subst (λ (z : ℕ). IsPlaced z (place m)) (sym long) (kept.placed m);
+      beyond = kept.beyond;
+      noticed = views_both log first_id rec other id apart s.views x y (λ _ u. AreAll (IsNoticed (ghost_now other id g)) u.notices)
+          (all_joined (IsNoticed (ghost_now other id g)) v.notices w.notices (kept.noticed id v at) (kept.noticed other w at2)) tt (λ by u a b e. kept.noticed by u e);
       news = λ slot f. (
         subst (λ (z : ℕ). seat_now other id (g.ender slot f) < z) (sym long) (seat_low other id apart (g.ender slot f) (length s.views) below (kept.news slot f).0),
         (kept.news slot f).1,
@@ -376,21 +321,21 @@ join_keeps {T} {E} log first_id rec sizes id other v w no_hand no_list own_one s
           earlier = λ a less. seat_low other id apart (kept.at.2.holder a) kept.at.2.count (subst (λ (z : ℕ). id < z) (sym kept.at.2.seats) below) (kept.at.2.earlier a less);
           each = views_both log first_id rec other id apart s.views x y (IsNumbered (seat_now other id kept.at.2.opener) kept.at.2.count holder) (
             ap₂ either_of (kept.at.2.each id v at).0 (kept.at.2.each other w at2).0 ∙ seat_both kept.at.2.count other id apart kept.at.2.opener,
-            each_both (λ n. (n < kept.at.2.count) × (holder n ≡ id)) v.numbers w.numbers
-                (each_map (λ n. (n < kept.at.2.count) × (kept.at.2.holder n ≡ id)) (λ n. (n < kept.at.2.count) × (holder n ≡ id)) v.numbers
+            all_joined (λ n. (n < kept.at.2.count) × (holder n ≡ id)) v.numbers w.numbers
+                (all_map (λ n. (n < kept.at.2.count) × (kept.at.2.holder n ≡ id)) (λ n. (n < kept.at.2.count) × (holder n ≡ id)) v.numbers
                 (λ n t. (t.0, ap (seat_now other id) t.1 ∙ now_id other id apart)) (kept.at.2.each id v at).1)
-                (each_map (λ n. (n < kept.at.2.count) × (kept.at.2.holder n ≡ other)) (λ n. (n < kept.at.2.count) × (holder n ≡ id)) w.numbers
+                (all_map (λ n. (n < kept.at.2.count) × (kept.at.2.holder n ≡ other)) (λ n. (n < kept.at.2.count) × (holder n ≡ id)) w.numbers
                 (λ n t. (t.0, ap (seat_now other id) t.1 ∙ now_other other id apart)) (kept.at.2.each other w at2).1),
           )
               (sym (seat_spent (Some kept.at.2.count) None other id apart kept.at.2.opener), tt)
               (λ by u a b e. let t = kept.at.2.each by u e in (
                 t.0 ∙ sym (seat_third (Some kept.at.2.count) None other id apart by kept.at.2.opener a b),
-                each_map (λ n. (n < kept.at.2.count) × (kept.at.2.holder n ≡ by)) (λ n. (n < kept.at.2.count) × (holder n ≡ by)) u.numbers
+                all_map (λ n. (n < kept.at.2.count) × (kept.at.2.holder n ≡ by)) (λ n. (n < kept.at.2.count) × (holder n ≡ by)) u.numbers
                     (λ n z. (z.0, ap (seat_now other id) z.1 ∙ now_third other id apart by a)) t.1,
               ));
         },
       );
-      hands = views_both log first_id rec other id apart s.views x y (λ by u. HasInHand k s.words place by u.hand) (kept.hands id v at) idle_hand (λ by u a b e. kept.hands by u e);
+      hands = views_both log first_id rec other id apart s.views x y (λ by u. HasInHand k s.words place by u.hand) mine idle_hand (λ by u a b e. kept.hands by u e);
       lists = views_both log first_id rec other id apart s.views x y (λ by u. IsTakenList k s.words place by u.taken) (kept.lists id v at) idle_list (λ by u a b e. kept.lists by u e);
       tells = views_both log first_id rec other id apart s.views x y (IsInformed (ghost_now other id g) holder)
           (tells_both log first_id rec other id apart g kept.at.2.holder v w (kept.tells id v at) (kept.tells other w at2)) (tells_spent log first_id rec other id apart g kept.at.2.holder)

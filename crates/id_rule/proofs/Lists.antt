@@ -1,7 +1,8 @@
 -- Lists, views and words, when one of them changes.
 use Rattle.std.proofs.Common.{⊎_elim, inl, inr, ◌⊎◌, ◌≡◌, ◌≢◌, ℕ, zero, suc, ◌<◌, eq-eqb, ne_eqb, List, [], ◌∷◌, ◌++◌, length, set, refl, sym, ap}
 use Rattle.std.proofs.Common.{◌∙◌, subst, arith}
-use Rattle.std.specs.Prelude.{if◌then◌else◌, slice_index}
+use Rattle.std.specs.Prelude.{◌==◌, if◌then◌else◌, slice_index}
+use Rattle.id_rule.specs.declared.view.Receipt.{Receipt}
 use mathlib.Core.Option.{some, some-injective, some-ne-none}
 use lib.ListN.{get_elem?}
 use Rattle.atomic_table.proofs.Lists.{at_set}
@@ -17,6 +18,12 @@ module _ {A : Type 0} where
   set_there [] i a b e = absurd (some-ne-none a (sym e))
   set_there (x ∷ xs) zero a b e = refl
   set_there (x ∷ xs) (suc i) a b e = set_there xs i a b e
+
+  -- what was put into a list stands there
+  pub set_stands : (l : List A) (i : ℕ) (b : A) → i < length l → get_elem? (set l i b) i ≡ some b
+  set_stands [] i b less = absurd (omega (arith, less))
+  set_stands (x ∷ xs) zero b less = refl
+  set_stands (x ∷ xs) (suc i) b less = set_stands xs i b (omega (arith, less))
 
   -- what stands in a list stands below its length
   pub there_below : (l : List A) (i : ℕ) (a : A) → get_elem? l i ≡ some a → i < length l
@@ -64,6 +71,11 @@ pub below_it : (a count id : ℕ) (holder : ℕ → ℕ) (ns : List ℕ) → Has
 below_it a count id holder [] has all = absurd has
 below_it a count id holder (n ∷ ns) has all = ⊎_elim (λ e. subst (λ (z : ℕ). z < count) e all.0.0) (λ t. below_it a count id holder ns t all.1) has
 
+-- what follows for each element holds of the list
+pub all_map : {X : Type 0} (P Q : X → Type 0) (xs : List X) → ((x : X) → P x → Q x) → AreAll P xs → AreAll Q xs
+all_map {X} P Q [] f a = tt
+all_map {X} P Q (x ∷ xs) f a = (f x a.0, all_map P Q xs f a.1)
+
 -- the code of a word that was put together
 pub code_is : (f r c h : ℕ) → r < 2048 → c < 8 → h < 65536 → code_in (packed_word f r c h) ≡ c
 code_is f r c h a b d = omega arith
@@ -75,3 +87,15 @@ first_is f r c h z a b d = omega arith
 -- the size of the range of a word that was put together
 pub range_is : (f r c h : ℕ) → r < 2048 → c < 8 → h < 65536 → range_in (packed_word f r c h) ≡ r
 range_is f r c h a b d = omega arith
+
+-- a choice by two equal numbers, and by two that differ
+pub yes_if : {A : Type 0} (n m : ℕ) (a b : A) → n ≡ m → (if n == m then a else b) ≡ a
+yes_if n m a b e = ap (λ c. if c then a else b) (eq-eqb n m e)
+
+-- a choice whose seats differ
+pub no_if : {A : Type 0} (n m : ℕ) (a b : A) → n ≢ m → (if n == m then a else b) ≡ b
+no_if n m a b ne = ap (λ c. if c then a else b) (ne_eqb n m ne)
+
+-- no receipts
+abbrev pub bare : List Receipt
+bare = []

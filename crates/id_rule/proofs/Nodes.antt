@@ -10,7 +10,7 @@ use Rattle.atomic_table.proofs.Lists.{set_else}
 use Rattle.id_rule.specs.declared.view.Queued.{Queued}
 use Rattle.id_rule.specs.declared.view.Receipt.{Receipt}
 use Rattle.id_rule.specs.Nodes.{Place, idle, in_hand, in_queue, on_list, word_at, pass_of_node, IsLinked, ArePlaced, IsIn, IsTakenList, IsPlaced, IsNode}
-use Rattle.id_rule.specs.Receipts.{HasSent}
+use Rattle.id_rule.specs.Receipts.{HasSent, IsNoticed}
 use Rattle.id_rule.specs.Parts.{part_of, part_at, AreAll}
 use Rattle.id_rule.specs.Phases.{Phase, vacant, reserved, free, locked, ended, taken, retired, IsPart, IsSeated}
 use Rattle.id_rule.specs.Rule.{HasInHand, IsChained, IsInformed, IsNumbered, IsKept}
@@ -122,12 +122,12 @@ module _ (k m c n : ℕ) (ws : List ℕ) (place : ℕ → Place) (to : Place) (s
 module _ {T E : Type 0} (log : T → List E) (first_id : T → ℕ) (rec : E → Option Receipt) where
   -- A step on a word of the node m, which is free or with the seat before and after
   pub node_steps : (sizes : Sizes) (s : State (Option T) (View E)) (m c n id : ℕ) (v w : View E) (to : Place) (kept : IsKept log first_id rec sizes s) → get_elem? s.views id ≡ some v
-      → 1 ≤ m → c < 2 → IsOwn id (kept.place m) → IsOwn id to → w.numbers ≡ v.numbers → w.sent ≡ v.sent → w.next ≡ v.next → w.parts ≡ v.parts
+      → 1 ≤ m → c < 2 → IsOwn id (kept.place m) → IsOwn id to → w.numbers ≡ v.numbers → w.sent ≡ v.sent → w.next ≡ v.next → w.parts ≡ v.parts → w.notices ≡ v.notices → (sizes.passes * sizes.nodes < m → to ≡ idle)
       → HasInHand sizes.slots (set s.words (word_at sizes.slots m + c) n) (moved kept.place m to) id w.hand
       → IsTakenList sizes.slots (set s.words (word_at sizes.slots m + c) n) (moved kept.place m to) id w.taken
       → (m ≤ sizes.passes * sizes.nodes → IsNode sizes.slots (set s.words (word_at sizes.slots m + c) n) m (kept.at.2.holder (pass_of_node sizes.nodes m)) to)
       → IsKept log first_id rec sizes record { words = set s.words (word_at sizes.slots m + c) n; homes = s.homes; views = set s.views id w }
-  node_steps sizes s m c n id v w to kept at one low own own' numbers sent next parts hand list node =
+  node_steps sizes s m c n id v w to kept at one low own own' numbers sent next parts notices far hand list node =
       let k = sizes.slots in let place = kept.place in
       record {
         place = moved place m to;
@@ -141,6 +141,10 @@ module _ {T E : Type 0} (log : T → List E) (first_id : T → ℕ) (rec : E →
         placed = λ a. subst (λ (z : ℕ). IsPlaced z (moved place m to a)) (sym (length-set s.views id w))
             (dite (ℕ_discrete a m) (λ e. subst (IsPlaced (length s.views)) (sym (moved_here place m to a e)) (own_placed id (length s.views) to (there_below s.views id v at) own'))
             (λ ne. subst (IsPlaced (length s.views)) (sym (moved_else place m to a ne)) (kept.placed a)));
+        beyond = λ a more. dite (ℕ_discrete a m) (λ e. moved_here place m to a e ∙ far (subst (λ (z : ℕ). sizes.passes * sizes.nodes < z) e more))
+            (λ ne. moved_else place m to a ne ∙ kept.beyond a more);
+        noticed = views_after s.views id w (λ _ u. AreAll (IsNoticed kept.history) u.notices) (subst (AreAll (IsNoticed kept.history)) (sym notices) (kept.noticed id v at))
+            (λ by u ne e. kept.noticed by u e);
         news = λ slot f. (subst (λ (z : ℕ). kept.history.ender slot f < z) (sym (length-set s.views id w)) (kept.news slot f).0, (kept.news slot f).1);
         tells = views_after s.views id w (IsInformed kept.history kept.at.2.holder)
             (tells_same log first_id rec kept.history kept.at.2.holder id v w (λ slot.
@@ -195,9 +199,9 @@ set_same (x ∷ xs) (suc i) = λ z. x ∷ set_same xs i z
 module _ {T E : Type 0} (log : T → List E) (first_id : T → ℕ) (rec : E → Option Receipt) where
   -- a load that changes nothing but what the view has seen
   pub view_notes : (sizes : Sizes) (s : State (Option T) (View E)) (i id : ℕ) (v w : View E) (kept : IsKept log first_id rec sizes s) → get_elem? s.views id ≡ some v
-      → w.numbers ≡ v.numbers → w.sent ≡ v.sent → w.next ≡ v.next → w.parts ≡ v.parts → w.hand ≡ v.hand → w.taken ≡ v.taken
+      → w.numbers ≡ v.numbers → w.sent ≡ v.sent → w.next ≡ v.next → w.parts ≡ v.parts → w.hand ≡ v.hand → w.taken ≡ v.taken → w.notices ≡ v.notices
       → IsKept log first_id rec sizes record { words = set s.words i (slice_index s.words i); homes = s.homes; views = set s.views id w }
-  view_notes sizes s i id v w kept at numbers sent next parts hand list =
+  view_notes sizes s i id v w kept at numbers sent next parts hand list notices =
       subst (λ (z : List ℕ). IsKept log first_id rec sizes record { words = z; homes = s.homes; views = set s.views id w }) (sym (set_same s.words i))
       record {
         place = kept.place;
@@ -209,6 +213,9 @@ module _ {T E : Type 0} (log : T → List E) (first_id : T → ℕ) (rec : E →
         sents = views_after s.views id w (λ _ u. HasSent kept.history.sent u.numbers u.sent)
             (subst (λ (z : List ℕ × ℕ). HasSent kept.history.sent z.0 z.1) (λ y. (sym numbers y, sym sent y)) (kept.sents id v at)) (λ by u ne e. kept.sents by u e);
         placed = λ a. subst (λ (z : ℕ). IsPlaced z (kept.place a)) (sym (length-set s.views id w)) (kept.placed a);
+        beyond = kept.beyond;
+        noticed = views_after s.views id w (λ _ u. AreAll (IsNoticed kept.history) u.notices) (subst (AreAll (IsNoticed kept.history)) (sym notices) (kept.noticed id v at))
+            (λ by u ne e. kept.noticed by u e);
         news = λ slot f. (subst (λ (z : ℕ). kept.history.ender slot f < z) (sym (length-set s.views id w)) (kept.news slot f).0, (kept.news slot f).1);
         tells = views_after s.views id w (IsInformed kept.history kept.at.2.holder)
             (tells_same log first_id rec kept.history kept.at.2.holder id v w (λ slot.

@@ -10,7 +10,7 @@ use lib.ListN.{get_elem?}
 use Rattle.atomic_table.specs.Table.{opening, Splits}
 use Rattle.id_rule.specs.Words.{packed_word}
 use Rattle.id_rule.specs.Nodes.{Place, idle, in_hand, in_queue, on_list, word_at, IsTakenList, IsPlaced}
-use Rattle.id_rule.specs.Receipts.{History, HasSent}
+use Rattle.id_rule.specs.Receipts.{History, IsNoticed, HasSent}
 use Rattle.id_rule.specs.Parts.{blank_part, part_of, opening_view, next_after, list_of, giving_view, given_view, AreAll}
 use Rattle.id_rule.specs.Phases.{Phase, vacant, reserved, free, locked, ended, taken, retired, IsPart, IsSeated}
 use Rattle.id_rule.specs.Rule.{HasInHand, IsInformed, IsNumbered, IsKept}
@@ -119,7 +119,7 @@ nones_long T (suc n) = ap suc (nones_long T n)
 
 -- nothing is told yet
 abbrev pub untold : (E : Type 0) → ℕ → History E
-untold E nodes = record { numbered = λ s f a. []; last = λ s f. None; lost = λ s f. []; ender = λ s f. 0; sent = λ a. 0; width = nodes }
+untold E nodes = record { numbered = λ s f a. []; last = λ s f. None; lost = λ s f. []; ender = λ s f. 0; sent = λ a. 0; notice = λ a n. record { slot = 0; first = 0; offset = 0; code = 0; receipt = record { pass = a; number = n } }; width = nodes }
 
 -- a choice between equals
 same_if : {X : Type 0} (n m : ℕ) (x : X) → (if n == m then x else x) ≡ x
@@ -127,14 +127,14 @@ same_if n m x = dite (ℕ_discrete n m) (λ e. ap (λ b. if b then x else x) (eq
 
 module _ {T E : Type 0} (log : T → List E) (first_id : T → ℕ) (rec : E → Option Receipt) where
   -- one view, with nothing
-  at_first : (nodes : ℕ) (P : ℕ → View E → Type 0) → P 0 (opening_view nodes) → (by : ℕ) (v : View E) → get_elem? (opening_view nodes ∷ []) by ≡ some v → P by v
-  at_first nodes P one zero v e = subst (P 0) (some-injective _ _ e) one
-  at_first nodes P one (suc by) v e = absurd (some-ne-none v (sym e))
+  at_first : (nodes total : ℕ) (P : ℕ → View E → Type 0) → P 0 (opening_view nodes total) → (by : ℕ) (v : View E) → get_elem? (opening_view nodes total ∷ []) by ≡ some v → P by v
+  at_first nodes total P one zero v e = subst (P 0) (some-injective _ _ e) one
+  at_first nodes total P one (suc by) v e = absurd (some-ne-none v (sym e))
 
   -- the rule holds of a new table
   pub opening_kept : (sizes : Sizes) (n : ℕ) (words : List ℕ) → n ≡ sizes.slots → ((slot : ℕ) → slot < n → get_elem? words slot ≡ some (packed_word 1 0 0 0))
       → ((node : ℕ) → 1 ≤ node → node ≤ sizes.passes * sizes.nodes → (get_elem? words (word_at sizes.slots node) ≡ some 0) × (get_elem? words (word_at sizes.slots node + 1) ≡ some 0))
-      → IsKept log first_id rec sizes (opening words (replicate n None) (opening_view sizes.nodes))
+      → IsKept log first_id rec sizes (opening words (replicate n None) (opening_view sizes.nodes (sizes.passes * sizes.nodes)))
   opening_kept sizes n words same at free_nodes = record {
     place = λ m. idle;
     history = untold E sizes.nodes;
@@ -147,7 +147,7 @@ module _ {T E : Type 0} (log : T → List E) (first_id : T → ℕ) (rec : E →
           home_is = none_there n slot (subst (λ (z : ℕ). slot < z) (nones_long T n) below);
           sound = (omega arith, omega arith);
           seated = tt;
-          fits = at_first sizes.nodes (λ by v. IsPart log (fresh T E) by (part_of v slot)) record
+          fits = at_first sizes.nodes (sizes.passes * sizes.nodes) (λ by v. IsPart log (fresh T E) by (part_of v slot)) record
               { spot = refl; hold = refl; owner = refl; knows = λ f l e. absurd e; turn = refl; taking = refl; ended_below = omega arith; got = refl };
           chain = λ m j e. absurd (cc);
         },
@@ -160,19 +160,21 @@ module _ {T E : Type 0} (log : T → List E) (first_id : T → ℕ) (rec : E →
         seats = refl;
         later = λ a more. refl;
         earlier = λ a less. less;
-        each = at_first sizes.nodes (IsNumbered 0 1 (λ n. n)) (refl, ((omega arith, refl), tt));
+        each = at_first sizes.nodes (sizes.passes * sizes.nodes) (IsNumbered 0 1 (λ n. n)) (refl, ((omega arith, refl), tt));
       },
     );
-    hands = at_first sizes.nodes (λ by v. HasInHand sizes.slots words (λ m. idle) by v.hand) (λ m e. absurd (cc));
-    lists = at_first sizes.nodes (λ by v. IsTakenList sizes.slots words (λ m. idle) by v.taken) (tt, tt, λ m j e. absurd (cc));
+    hands = at_first sizes.nodes (sizes.passes * sizes.nodes) (λ by v. HasInHand sizes.slots words (λ m. idle) by v.hand) (λ m e. absurd (cc));
+    lists = at_first sizes.nodes (sizes.passes * sizes.nodes) (λ by v. IsTakenList sizes.slots words (λ m. idle) by v.taken) (tt, tt, λ m j e. absurd (cc));
     placed = λ m. tt;
+    beyond = λ m more. refl;
+    noticed = at_first sizes.nodes (sizes.passes * sizes.nodes) (λ _ u. AreAll (IsNoticed (untold E sizes.nodes)) u.notices) tt;
     wide = refl;
     rise = λ s f a. (tt, λ n h. absurd (omega (arith, h)));
     unsent = λ a more. refl;
-    sents = at_first sizes.nodes (λ _ u. HasSent (λ _. 0) u.numbers u.sent) refl;
+    sents = at_first sizes.nodes (sizes.passes * sizes.nodes) (λ _ u. HasSent (λ _. 0) u.numbers u.sent) refl;
     news = λ slot f. (omega arith, λ a more. refl);
     over = λ slot f l e. absurd (none-some l e);
-    tells = at_first sizes.nodes (IsInformed (untold E sizes.nodes) (λ n. n)) (λ s f. ((λ a. sym (same_if a 0 [])), refl, (λ l h. absurd h), λ h. absurd h));
+    tells = at_first sizes.nodes (sizes.passes * sizes.nodes) (IsInformed (untold E sizes.nodes) (λ n. n)) (λ s f. ((λ a. sym (same_if a 0 [])), refl, (λ l h. absurd h), λ h. absurd h));
     nodes = λ node a b. ((free_nodes node a b).0, (0, (free_nodes node a b).1));
   }
 
@@ -257,6 +259,8 @@ module _ {T E : Type 0} (log : T → List E) (first_id : T → ℕ) (rec : E →
         sents = views_more s.views id v (λ _ u. HasSent kept.history.sent u.numbers u.sent) (kept.sents id v at)
             (subst (λ (o : Option ℕ). HasSent kept.history.sent (list_of o) 0) (sym next) (sym (kept.unsent k (omega (arith, mine.1))))) (λ by u _ ne e. kept.sents by u e);
         placed = λ m. subst (λ (z : ℕ). IsPlaced z (kept.place m)) (sym (longer s.views id v)) (more_placed n (kept.place m) (kept.placed m));
+        beyond = kept.beyond;
+        noticed = views_more s.views id v (λ _ u. AreAll (IsNoticed kept.history) u.notices) (kept.noticed id v at) tt (λ by u _ ne e. kept.noticed by u e);
         tells = views_more s.views id v (IsInformed kept.history a.holder) (kept.tells id v at)
             (λ slot f. (
               (λ b. dite (ℕ_discrete b n)

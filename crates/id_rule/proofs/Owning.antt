@@ -83,7 +83,7 @@ module _ {T E : Type 0} (log : T → List E) (first_id : T → ℕ) (rec : E →
         keeps,
         tt,
         subst (λ (z : ℕ). IsKept log first_id rec sizes record { words = set s.words z n; homes = s.homes; views = set s.views id w }) same
-            (node_steps log first_id rec sizes s m 0 n id me.0 w to kept at mine.0 (omega arith) own refl refl refl refl refl (
+            (node_steps log first_id rec sizes s m 0 n id me.0 w to kept at mine.0 (omega arith) own refl refl refl refl refl refl (λ far. absurd (in_range (sym mine.1 ∙ kept.beyond m far))) (
               mine.0,
               moved_here place m to m refl,
               at_word k m n s.words h.1 mine.2,
@@ -95,6 +95,9 @@ module _ {T E : Type 0} (log : T → List E) (first_id : T → ℕ) (rec : E →
         λ g e. ap (λ (z : ℕ × ℕ × ℕ). (view_with_hand me.0 (Some (z.0, n, z.2)), me.1)) (same_Some h g (sym has ∙ e)),
       )
     where
+      in_range : in_hand id ≡ idle → ⊥
+      in_range e = absurd (cc)
+
       apart : (j : ℕ) → in_hand id ≡ on_list id j → ⊥
       apart j e = absurd (cc)
 
@@ -112,7 +115,7 @@ module _ {T E : Type 0} (log : T → List E) (first_id : T → ℕ) (rec : E →
         keeps,
         tt,
         subst (λ (z : ℕ). IsKept log first_id rec sizes record { words = set s.words z n; homes = s.homes; views = set s.views id w }) (sym is)
-            (node_steps log first_id rec sizes s m 1 n id me.0 w to kept at mine.0 (omega arith) own refl refl refl refl refl (
+            (node_steps log first_id rec sizes s m 1 n id me.0 w to kept at mine.0 (omega arith) own refl refl refl refl refl refl (λ far. absurd (in_range (sym mine.1 ∙ kept.beyond m far))) (
               mine.0,
               moved_here place m to m refl,
               set_else s.words (word_at k m + 1) (word_at k m) n (λ e. omega arith) ∙ mine.2,
@@ -124,6 +127,9 @@ module _ {T E : Type 0} (log : T → List E) (first_id : T → ℕ) (rec : E →
         λ g e. ap (λ (z : ℕ × ℕ × ℕ). (view_with_hand me.0 (Some (z.0, z.1, n)), me.1)) (same_Some h g (sym has ∙ e)),
       )
     where
+      in_range : in_hand id ≡ idle → ⊥
+      in_range e = absurd (cc)
+
       apart : (j : ℕ) → in_hand id ≡ on_list id j → ⊥
       apart j e = absurd (cc)
 
@@ -141,7 +147,7 @@ module _ {T E : Type 0} (log : T → List E) (first_id : T → ℕ) (rec : E →
         keeps,
         tt,
         subst (λ (z : ℕ). IsKept log first_id rec sizes record { words = set s.words z 0; homes = s.homes; views = set s.views id w }) same
-            (node_steps log first_id rec sizes s m 0 0 id me.0 w idle kept at mine.0 (omega arith) own tt refl refl refl refl
+            (node_steps log first_id rec sizes s m 0 0 id me.0 w idle kept at mine.0 (omega arith) own tt refl refl refl refl refl (λ _. refl)
             (λ z e. let y = was_there place m idle (in_hand id) away z e in y.0 (mine.4 z y.1))
             (list_apart k m 0 0 s.words place idle mine.0 (omega arith) (on_list id) me.0.taken (λ j e. apart j (sym mine.1 ∙ e)) gone list.0 list.1 list.2)
             (λ few. (at_word k m 0 s.words h.1 mine.2, (h.2, set_else s.words (word_at k m + 0) (word_at k m + 1) 0 (λ e. omega arith) ∙ mine.3)))),
@@ -164,7 +170,7 @@ module _ {T E : Type 0} (log : T → List E) (first_id : T → ℕ) (rec : E →
         me.0,
         keeps,
         tt,
-        view_notes log first_id rec sizes s i id me.0 me.0 kept at refl refl refl refl refl refl,
+        view_notes log first_id rec sizes s i id me.0 me.0 kept at refl refl refl refl refl refl refl,
         (
           refl,
           λ q qs e.
@@ -189,7 +195,7 @@ module _ {T E : Type 0} (log : T → List E) (first_id : T → ℕ) (rec : E →
         keeps,
         tt,
         subst (λ (z : ℕ). IsKept log first_id rec sizes record { words = set s.words z 0; homes = s.homes; views = set s.views id w }) same
-            (node_steps log first_id rec sizes s m 0 0 id me.0 w idle kept at list.0.0 (omega arith) own tt refl refl refl refl
+            (node_steps log first_id rec sizes s m 0 0 id me.0 w idle kept at list.0.0 (omega arith) own tt refl refl refl refl refl (λ _. refl)
             (hands_apart k m 0 0 s.words place idle list.0.0 (omega arith) id me.0.hand (λ e. apart (length qs) (sym there ∙ e)) away (kept.hands id me.0 at)) (
               linked_rest k m 0 0 s.words place id list.0.0 (omega arith) (length qs) there qs (omega arith) list.1.1 list.0.3,
               placed_rest k m 0 0 s.words place id list.0.0 (omega arith) (length qs) there qs (omega arith) list.1.1,
@@ -250,7 +256,7 @@ module _ {T E : Type 0} (log : T → List E) (first_id : T → ℕ) (rec : E →
           homes = s.homes;
           views = set s.views id (view_with_hand (view_with_seen me.0 i n) (Some (z.1, 0, second)));
         }) (λ y. (there y, sym which y))
-            (node_steps log first_id rec sizes s m 0 n id me.0 w0 to kept at one (omega arith) own_it refl refl refl refl refl (
+            (node_steps log first_id rec sizes s m 0 n id me.0 w0 to kept at one (omega arith) own_it refl refl refl refl refl refl (λ far. absurd (omega (arith, far, few))) (
               one,
               moved_here place m to m refl,
               at_word k m n s.words 0 first ∙ ap some hit,
@@ -265,7 +271,7 @@ module _ {T E : Type 0} (log : T → List E) (first_id : T → ℕ) (rec : E →
         view_with_seen me.0 i n,
         keeps,
         tt,
-        view_notes log first_id rec sizes s i id me.0 (view_with_seen me.0 i n) kept at refl refl refl refl refl refl,
+        view_notes log first_id rec sizes s i id me.0 (view_with_seen me.0 i n) kept at refl refl refl refl refl refl refl,
         ((λ hit. absurd (miss hit)), λ _. refl),
       ))
     where

@@ -1,5 +1,5 @@
 -- Pushing a node onto the chain of a locked slot keeps the rule.
-use Rattle.std.proofs.Common.{⊎_elim, inl, inr, ◌⊎◌, ◌≡◌, ◌≢◌, ℕ, ◌+◌, ◌<◌, ◌≤◌, eq-eqb, ne_eqb, List, [], ◌∷◌, ◌++◌, append-nil, Bool, true, false, length, refl, sym, ap, ap₂, ◌∙◌, subst, arith}
+use Rattle.std.proofs.Common.{inl, inr, ◌≡◌, ◌≢◌, ℕ, ◌+◌, ◌*◌, ◌<◌, eq-eqb, ne_eqb, List, [], ◌∷◌, ◌++◌, append-nil, Bool, length, refl, sym, ap, ap₂, ◌∙◌, subst, arith}
 use Rattle.std.proofs.Common.{Option, Some, None}
 use Rattle.std.specs.Prelude.{◌==◌, if◌then◌else◌, slice_index}
 use Rattle.std.proofs.lemmas.Option.{none-some, same_Some}
@@ -12,93 +12,30 @@ use Rattle.atomic_table.specs.Table.{step, keeps, Allows}
 use Rattle.atomic_table.proofs.Lists.{exchanged}
 use Rattle.rpc_model.specs.Gone.{code_in, range_in, first_in, head_in}
 use Rattle.id_rule.specs.Words.{packed_word}
-use Rattle.id_rule.specs.Nodes.{Place, idle, in_hand, in_queue, on_list, node_word, head_of, word_at, IsLinked, IsIn, IsWhole, IsTakenList, IsNonzero, IsPlaced, IsNode, pass_of_node, numbers_of}
-use Rattle.id_rule.specs.Receipts.{History, HasSent, IsRisingBelow, occurrences, receipts_of_range, receipts_in, AreSettled}
+use Rattle.id_rule.specs.Nodes.{Place, idle, in_hand, in_queue, on_list, node_word, head_of, word_at, notice_of, offset_in, error_in, IsLinked, IsIn, IsWhole, IsTakenList, IsNonzero, IsPlaced, IsNode, pass_of_node, numbers_of}
+use Rattle.id_rule.specs.Receipts.{History, IsNoticed, HasSent, receipts_of_range, receipts_in, AreSettled}
 use Rattle.id_rule.specs.Parts.{HasNumber, part_of, HasLog, AreAll, own_number}
 use Rattle.id_rule.specs.Changes.{view_after_load, part_with_receipt, pushing_view}
 use Rattle.id_rule.specs.Phases.{Range, Phase, vacant, reserved, free, locked, ended, taken, retired, slot_word, IsPart, IsSound}
 use Rattle.id_rule.specs.Rule.{HasInHand, IsChained, IsTold, IsInformed, IsSlot, IsKept}
 use Rattle.id_rule.specs.Steps.{Mine, IsPush}
 use Rattle.id_rule.specs.declared.view.Queued.{Queued}
+use Rattle.id_rule.specs.declared.view.Notice.{Notice}
 use Rattle.id_rule.specs.declared.view.Receipt.{Receipt}
+use Rattle.id_rule.specs.declared.view.Turn.{Turn}
+use Rattle.id_rule.proofs.Seats.{all_joined}
 use Rattle.id_rule.proofs.Chains.{placed_else, moved, pushed}
-use Rattle.id_rule.proofs.Lists.{views_after, holds_it, below_it, part_here, part_else, index_is, first_is, range_is}
-use Rattle.id_rule.proofs.Receipts.{occurs_append, rises, at_append, numbers_append, at_push}
+use Rattle.id_rule.proofs.Lists.{all_map, views_after, holds_it, below_it, part_here, part_else, index_is, first_is, range_is}
+use Rattle.id_rule.proofs.Receipts.{at_append, numbers_append, at_push}
 use Rattle.id_rule.proofs.Reserving.{load_kept}
 use Rattle.id_rule.proofs.Steps.{StepKeeps, slot_moves}
 use Rattle.id_rule.specs.declared.rule.Sizes.{Sizes}
 use Rattle.id_rule.specs.declared.view.Part.{Part}
 use Rattle.id_rule.specs.declared.view.View.{View}
-
-abbrev nil : List ℕ
-nil = []
-
--- one receipt more
-abbrev pub extra : ℕ → ℕ → Receipt → ℕ → ℕ → ℕ → List ℕ
-extra slot first rc s f a = if s == slot then (if f == first then numbers_of a (rc ∷ []) else []) else []
-
--- the history with one more receipt
-abbrev pub bumped : {E : Type 0} → History E → ℕ → ℕ → Receipt → History E
-bumped g slot first rc = record {
-  numbered = λ s f a. g.numbered s f a ++ extra slot first rc s f a;
-  last = g.last;
-  lost = g.lost;
-  ender = g.ender;
-  sent = λ a. if a == rc.pass then g.sent a + 1 else g.sent a;
-  width = g.width;
-}
-
--- a receipt has no number of another pass
-not_its : (a : ℕ) (rc : Receipt) → rc.pass ≢ a → numbers_of a (rc ∷ []) ≡ []
-not_its a rc ne = ap (λ b. (if b then rc.number ∷ [] else []) ++ []) (ne_eqb rc.pass a ne)
-
--- a receipt adds nothing for another pass
-extra_else : (slot first : ℕ) (rc : Receipt) (s f a : ℕ) → rc.pass ≢ a → extra slot first rc s f a ≡ []
-extra_else slot first rc s f a ne = ap (λ (z : List ℕ). if s == slot then (if f == first then z else []) else []) (not_its a rc ne) ∙ both (s == slot) (f == first)
-  where
-    one : (c : Bool) → (if c then nil else nil) ≡ nil
-    one true = refl
-    one false = refl
-
-    both : (b c : Bool) → (if b then (if c then nil else nil) else nil) ≡ nil
-    both true c = one c
-    both false c = refl
-
--- a receipt adds its number for its own slot, range and pass
-extra_here : (slot first : ℕ) (rc : Receipt) (a : ℕ) → extra slot first rc slot first a ≡ numbers_of a (rc ∷ [])
-extra_here slot first rc a = ap (λ (b : Bool). if b then (if first == first then numbers_of a (rc ∷ []) else nil) else nil) (eq-eqb slot slot refl)
-    ∙ ap (λ (b : Bool). if b then numbers_of a (rc ∷ []) else nil) (eq-eqb first first refl)
-
--- a receipt adds nothing for another slot
-extra_slot : (slot first : ℕ) (rc : Receipt) (s f a : ℕ) → s ≢ slot → extra slot first rc s f a ≡ []
-extra_slot slot first rc s f a ne = ap (λ (b : Bool). if b then (if f == first then numbers_of a (rc ∷ []) else nil) else nil) (ne_eqb s slot ne)
-
--- a receipt adds nothing for another range
-extra_range : (slot first : ℕ) (rc : Receipt) (f a : ℕ) → f ≢ first → extra slot first rc slot f a ≡ []
-extra_range slot first rc f a ne = ap (λ (b : Bool). if b then (if f == first then numbers_of a (rc ∷ []) else nil) else nil) (eq-eqb slot slot refl)
-    ∙ ap (λ (b : Bool). if b then numbers_of a (rc ∷ []) else nil) (ne_eqb f first ne)
-
--- what the pushed receipt adds to the view's
-extra_at : (slot first : ℕ) (rc : Receipt) (s f a : ℕ) → s ≡ slot → numbers_of a (receipts_of_range f ((first, rc) ∷ [])) ≡ extra slot first rc s f a
-extra_at slot first rc s f a same = dite (ℕ_discrete first f)
-    (λ e. ap (λ (b : Bool). numbers_of a ((if b then rc ∷ [] else []) ++ [])) (eq-eqb first f e) ∙ sym (ap₂ (λ (x y : ℕ). extra slot first rc x y a) same (sym e) ∙ extra_here slot first rc a))
-    (λ ne. ap (λ (b : Bool). numbers_of a ((if b then rc ∷ [] else []) ++ [])) (ne_eqb first f ne)
-    ∙ sym (ap (λ (x : ℕ). extra slot first rc x f a) same ∙ extra_range slot first rc f a (λ e. ne (sym e))))
-
--- a choice that takes in what is added, where the other side adds nothing
-joins_if : (n m : ℕ) (xs ys : List ℕ) → (n ≢ m → ys ≡ []) → (if n == m then xs else []) ++ ys ≡ (if n == m then xs ++ ys else [])
-joins_if n m xs ys away = dite (ℕ_discrete n m)
-    (λ e. ap (λ (b : Bool). (if b then xs else nil) ++ ys) (eq-eqb n m e) ∙ sym (ap (λ (b : Bool). if b then xs ++ ys else nil) (eq-eqb n m e)))
-    (λ ne. ap (λ (b : Bool). (if b then xs else nil) ++ ys) (ne_eqb n m ne) ∙ away ne ∙ sym (ap (λ (b : Bool). if b then xs ++ ys else nil) (ne_eqb n m ne)))
-
--- a choice to which nothing is added
-adds_none : (n m : ℕ) (xs ys : List ℕ) → (n ≡ m → ys ≡ []) → (if n == m then xs else []) ≡ (if n == m then xs ++ ys else [])
-adds_none n m xs ys away = dite (ℕ_discrete n m)
-    (λ e. ap (λ (b : Bool). if b then xs else nil) (eq-eqb n m e) ∙ sym (ap (λ (b : Bool). if b then xs ++ ys else nil) (eq-eqb n m e) ∙ ap (λ z. xs ++ z) (away e) ∙ append-nil xs))
-    (λ ne. ap (λ (b : Bool). if b then xs else nil) (ne_eqb n m ne) ∙ sym (ap (λ (b : Bool). if b then xs ++ ys else nil) (ne_eqb n m ne)))
+use Rattle.id_rule.proofs.Numbering.{adds_none, bumped, counts_is, counts_other, counts_own, extra, extra_at, extra_else, extra_here, extra_range, extra_slot, joins_if, noticed_more, noticed_new, other_number, rises_more}
 
 -- the head of a word that was put together
-head_is : (f r c h : ℕ) → r < 2048 → c < 8 → h < 65536 → head_in (packed_word f r c h) ≡ h
+pub head_is : (f r c h : ℕ) → r < 2048 → c < 8 → h < 65536 → head_in (packed_word f r c h) ≡ h
 head_is f r c h a b d = omega arith
 
 -- the seat that a place names
@@ -115,61 +52,9 @@ slot_in (in_hand by) = 0
 slot_in (in_queue a b) = a
 slot_in (on_list a b) = 0
 
--- a view's count is that of its own number
-counts_is : (sent : ℕ → ℕ) (ns : List ℕ) (n : ℕ) → HasNumber (own_number ns) ns → HasSent sent ns n → n ≡ sent (own_number ns)
-counts_is sent [] n has c = absurd has
-counts_is sent (a ∷ ns) n has c = c
-
--- the pushing pass has numbered one more
-counts_own : (sent : ℕ → ℕ) (own : ℕ) (ns : List ℕ) (n : ℕ) → own ≡ own_number ns → HasNumber (own_number ns) ns → HasSent sent ns n
-    → HasSent (λ a. if a == own then sent a + 1 else sent a) ns (n + 1)
-counts_own sent own [] n is has c = absurd has
-counts_own sent own (a ∷ ns) n is has c = ap (λ z. z + 1) c ∙ sym (ap (λ (b : Bool). if b then sent a + 1 else sent a) (eq-eqb a own (sym is)))
-
--- other passes have numbered as many as before
-counts_other : (sent : ℕ → ℕ) (own : ℕ) (ns : List ℕ) (n : ℕ) → (HasNumber own ns → ⊥) → HasSent sent ns n → HasSent (λ a. if a == own then sent a + 1 else sent a) ns n
-counts_other sent own [] n away c = tt
-counts_other sent own (a ∷ ns) n away c = c ∙ sym (ap (λ (b : Bool). if b then sent a + 1 else sent a) (ne_eqb a own (λ e. away (inl e))))
-
--- another seat's view doesn't have the number
-other_number : (count by : ℕ) (holder : ℕ → ℕ) (a : ℕ) (ns : List ℕ) → HasNumber a ns → AreAll (λ n. (n < count) × (holder n ≡ by)) ns → (holder a ≡ by → ⊥) → ⊥
-other_number count by holder a ns has all away = away (holds_it a count by holder ns has all)
-
--- the numbers rise with the one that was pushed
-rises_more : {E : Type 0} (g : History E) (slot first : ℕ) (rc : Receipt) (s f a : ℕ) → rc.number ≡ g.sent rc.pass → IsRisingBelow (g.numbered s f a) (g.sent a)
-    → IsRisingBelow ((bumped g slot first rc).numbered s f a) ((bumped g slot first rc).sent a)
-rises_more g slot first rc s f a next all = dite (ℕ_discrete a rc.pass)
-    (λ own. let more : (if a == rc.pass then g.sent a + 1 else g.sent a) ≡ g.sent a + 1 = ap (λ (b : Bool). if b then g.sent a + 1 else g.sent a) (eq-eqb a rc.pass own) in
-    ⊎_elim
-    (λ none_more. subst (λ (z : List ℕ × ℕ). IsRisingBelow z.0 z.1) (λ y. (sym (ap (λ z. g.numbered s f a ++ z) none_more ∙ append-nil (g.numbered s f a)) y, sym more y))
-    (all.0, λ n h. let t = all.1 n h in omega (arith, t)))
-    (λ one_more. let is : rc.number ≡ g.sent a = next ∙ ap g.sent (sym own) in
-    subst (λ (z : List ℕ × ℕ). IsRisingBelow z.0 z.1) (λ y. (sym (ap (λ z. g.numbered s f a ++ z) one_more) y, sym more y)) (
-      rises 0 rc.number (g.numbered s f a) (omega arith) all.0 (λ n h. let t = all.1 n h in omega (arith, t, is)),
-      (λ n h. last_below n (g.numbered s f a) rc.number (g.sent a) is all.1 h),
-    ))
-    (extra_cases slot first rc s f a own))
-    (λ ne. subst (λ (z : List ℕ × ℕ). IsRisingBelow z.0 z.1) (λ y. (
-      sym (ap (λ z. g.numbered s f a ++ z) (extra_else slot first rc s f a (λ e. ne (sym e))) ∙ append-nil (g.numbered s f a)) y,
-      sym (ap (λ (b : Bool). if b then g.sent a + 1 else g.sent a) (ne_eqb a rc.pass ne)) y,
-    )) all)
-  where
-    extra_cases : (slot first : ℕ) (rc : Receipt) (s f a : ℕ) → a ≡ rc.pass → (extra slot first rc s f a ≡ []) ⊎ (extra slot first rc s f a ≡ rc.number ∷ [])
-    extra_cases slot first rc s f a own = dite (ℕ_discrete s slot)
-        (λ same. dite (ℕ_discrete f first)
-        (λ e. inr (ap₂ (λ (x y : ℕ). extra slot first rc x y a) same e ∙ extra_here slot first rc a ∙ ap (λ (b : Bool). (if b then rc.number ∷ [] else []) ++ []) (eq-eqb rc.pass a (sym own))))
-        (λ ne. inl (ap (λ (x : ℕ). extra slot first rc x f a) same ∙ extra_range slot first rc f a ne)))
-        (λ ne. inl (extra_slot slot first rc s f a ne))
-
-    last_below : (n : ℕ) (ns : List ℕ) (m next : ℕ) → m ≡ next → ((k : ℕ) → 1 ≤ occurrences k ns → k < next) → 1 ≤ occurrences n (ns ++ m ∷ []) → n < next + 1
-    last_below n ns m next is below h = dite (ℕ_discrete m n)
-        (λ e. omega (arith, e, is))
-        (λ ne. let u : ℕ = 1 in let z : ℕ = 0 in let none : (if m == n then u else z) ≡ z = ap (λ (b : Bool). if b then u else z) (ne_eqb m n ne) in
-        let t = below n (let p = occurs_append n ns (m ∷ []) in omega (arith, p, h, none)) in omega (arith, t))
-
 module _ {T E : Type 0} (log : T → List E) (first_id : T → ℕ) (rec : E → Option Receipt) where
   -- a word that says locked is a locked slot's
-  locked_face : (slot : ℕ) (ph : Phase T E) → IsSound first_id slot ph → code_in (slot_word ph) ≡ 3 → (r : Range) × (who : ℕ) × (l : List E) × (qs : List Queued) × (got : List Receipt)
+  locked_face : (slot : ℕ) (ph : Phase T E) → IsSound first_id slot ph → code_in (slot_word ph) ≡ 3 → (r : Range) × (who : ℕ) × (l : Turn E) × (qs : List Queued) × (got : List Receipt)
       × (ph ≡ locked r who l qs got) × (first_in (slot_word ph) ≡ r.first) × (range_in (slot_word ph) ≡ r.size) × (head_in (slot_word ph) ≡ head_of qs)
   locked_face slot (vacant f) h e = absurd (omega arith)
   locked_face slot (reserved f r who) h e = absurd (omega arith)
@@ -269,17 +154,36 @@ module _ {T E : Type 0} (log : T → List E) (first_id : T → ℕ) (rec : E →
   hands_moved k m id by slot t place ws (Some h) held ne a =
       (a.0, ap (λ b. if b then in_queue slot t else place h.0) (ne_eqb h.0 m (λ e. ne (ap by_of (sym a.1 ∙ ap place e ∙ held)))) ∙ a.1, a.2, a.3, λ z e. a.4 z (from_hand m by slot t place z e))
 
+  -- more errors were queued, and those of the slot as before
+  told_more : (g : History E) (sent : ℕ → ℕ) (notice : ℕ → ℕ → Notice) (slot : ℕ) (p : Phase T E) → ((x : Notice) → IsNoticed g x → IsNoticed (record g { sent = sent; notice = notice }) x)
+      → IsTold log rec g slot p → IsTold log rec (record g { sent = sent; notice = notice }) slot p
+  told_more g sent notice slot (vacant f) more t = t
+  told_more g sent notice slot (reserved f r who) more t = t
+  told_more g sent notice slot (free r x) more t = t
+  told_more g sent notice slot (locked r who l qs got) more t = (
+    t.0,
+    t.1,
+    t.2,
+    t.3,
+    all_map (λ q. IsNoticed g (notice_of slot r.first q)) (λ q. IsNoticed (record g { sent = sent; notice = notice }) (notice_of slot r.first q)) qs
+        (λ q. more (notice_of slot r.first q)) t.4,
+  )
+  told_more g sent notice slot (ended r x) more t = t
+  told_more g sent notice slot (taken r l) more t = t
+  told_more g sent notice slot (retired f) more t = t
+
   -- another slot's receipts are where they were
-  pub told_else : (g g' : History E) (slot : ℕ) (p : Phase T E) → g.width ≡ g'.width → ((f a : ℕ) → g.numbered slot f a ≡ g'.numbered slot f a) → g.last slot ≡ g'.last slot
-      → g.lost slot ≡ g'.lost slot → IsTold log rec g slot p → IsTold log rec g' slot p
-  told_else g g' slot p same_width numbered last lost t = subst (λ (z : (ℕ → ℕ → List ℕ) × (ℕ → Option (List E)) × (ℕ → List Receipt) × ℕ). IsTold log rec record
-      { numbered = λ s. z.0; last = λ s. z.1; lost = λ s. z.2; ender = g.ender; sent = g.sent; width = z.3 } slot p)
-      (λ y. ((λ f a. numbered f a y), last y, lost y, same_width y)) t
+  pub told_else : (g g' : History E) (slot : ℕ) (p : Phase T E) → ((x : Notice) → IsNoticed g x → IsNoticed g' x) → g.width ≡ g'.width → ((f a : ℕ) → g.numbered slot f a ≡ g'.numbered slot f a)
+      → g.last slot ≡ g'.last slot → g.lost slot ≡ g'.lost slot → IsTold log rec g slot p → IsTold log rec g' slot p
+  told_else g g' slot p more same_width numbered last lost t =
+      subst (λ (z : (ℕ → ℕ → List ℕ) × (ℕ → Option (List E)) × (ℕ → List Receipt) × ℕ). IsTold log rec record
+      { numbered = λ s. z.0; last = λ s. z.1; lost = λ s. z.2; ender = g.ender; sent = g'.sent; notice = g'.notice; width = z.3 } slot p)
+      (λ y. ((λ f a. numbered f a y), last y, lost y, same_width y)) (told_more g g'.sent g'.notice slot p more t)
 
   -- other views know as much as before
-  tells_more : (g : History E) (holder : ℕ → ℕ) (id by slot first : ℕ) (rc : Receipt) (u : View E) → holder rc.pass ≡ id → by ≢ id → IsInformed g holder by u
-      → IsInformed (bumped g slot first rc) holder by u
-  tells_more g holder id by slot first rc u own ne all s f = (
+  tells_more : (g : History E) (holder : ℕ → ℕ) (id by : ℕ) (new : Notice) (u : View E) → holder new.receipt.pass ≡ id → by ≢ id → IsInformed g holder by u
+      → IsInformed (bumped g new) holder by u
+  tells_more g holder id by new u own ne all s f = let slot = new.slot in let first = new.first in let rc = new.receipt in (
     (λ a. (all s f).0 a ∙ adds_none (holder a) by (g.numbered s f a) (extra slot first rc s f a) (λ e. extra_else slot first rc s f a (λ same. ne (sym e ∙ ap holder (sym same) ∙ own)))),
     (all s f).1,
     (all s f).2,
@@ -287,10 +191,10 @@ module _ {T E : Type 0} (log : T → List E) (first_id : T → ℕ) (rec : E →
   )
 
   -- the view that pushed knows its receipt
-  tells_push : (g : History E) (holder : ℕ → ℕ) (id slot first : ℕ) (rc : Receipt) (v : View E) → holder rc.pass ≡ id → IsInformed g holder id v
-      → IsInformed (bumped g slot first rc) holder id (pushing_view v slot first rc)
-  tells_push g holder id slot first rc v own all s f = dite (ℕ_discrete s slot)
-      (λ same. let there : part_of (pushing_view v slot first rc) s ≡ part_with_receipt (part_of v slot) first rc = ap (λ (z : ℕ). part_of (pushing_view v slot first rc) z) same
+  tells_push : (g : History E) (holder : ℕ → ℕ) (id : ℕ) (new : Notice) (v : View E) → holder new.receipt.pass ≡ id → IsInformed g holder id v
+      → IsInformed (bumped g new) holder id (pushing_view v new)
+  tells_push g holder id new v own all s f = let slot = new.slot in let first = new.first in let rc = new.receipt in dite (ℕ_discrete s slot)
+      (λ same. let there : part_of (pushing_view v new) s ≡ part_with_receipt (part_of v slot) first rc = ap (λ (z : ℕ). part_of (pushing_view v new) z) same
       ∙ part_here v.parts slot (part_with_receipt (part_of v slot) first rc) in
       let here : part_of v slot ≡ part_of v s = ap (part_of v) (sym same) in (
         (λ a. ap (λ (z : Part E). numbers_of a (receipts_of_range f z.receipts)) there ∙ ap (numbers_of a) (at_append f (part_of v slot).receipts ((first, rc) ∷ []))
@@ -301,7 +205,7 @@ module _ {T E : Type 0} (log : T → List E) (first_id : T → ℕ) (rec : E →
         (λ l h. (all s f).2 l (subst (λ (z : Part E). HasLog z.last f l) here (subst (λ (z : Part E). HasLog z.last f l) there h))),
         (λ h. (all s f).3 (subst (λ (z : Part E). HasNumber f z.destroyed) here (subst (λ (z : Part E). HasNumber f z.destroyed) there h))),
       ))
-      (λ ne. let there : part_of (pushing_view v slot first rc) s ≡ part_of v s = part_else v.parts slot s (part_with_receipt (part_of v slot) first rc) ne in (
+      (λ ne. let there : part_of (pushing_view v new) s ≡ part_of v s = part_else v.parts slot s (part_with_receipt (part_of v slot) first rc) ne in (
         (λ a. ap (λ (z : Part E). numbers_of a (receipts_of_range f z.receipts)) there ∙ (all s f).0 a
             ∙ adds_none (holder a) id (g.numbered s f a) (extra slot first rc s f a) (λ _. extra_slot slot first rc s f a ne)),
         ap (λ (z : Part E). receipts_of_range f z.dropped) there ∙ (all s f).1,
@@ -310,12 +214,13 @@ module _ {T E : Type 0} (log : T → List E) (first_id : T → ℕ) (rec : E →
       ))
 
   -- a push, which hits where the head is the one that the node names
-  pub push_keeps : (sizes : Sizes) (slots id i : ℕ) (me : Mine T E) (old new node offset code number : ℕ) → i < sizes.slots → node < 65536 → offset < range_in old → number ≡ me.0.sent
+  pub push_keeps : (sizes : Sizes) (slots id i : ℕ) (me : Mine T E) (old new node offset code number : ℕ) → i < sizes.slots → node < 65536 → offset < range_in old → code < 65536 → number ≡ me.0.sent
       → own_number me.0.numbers ≡ pass_of_node sizes.nodes node
       → me.0.hand ≡ Some (node, node_word (head_in old) offset code, number) → HasNumber (own_number me.0.numbers) me.0.numbers → code_in old ≡ 3
       → new ≡ packed_word (first_in old) (range_in old) 3 node
       → Allows (IsKept log first_id rec sizes) slots id me i (λ n. either (n == old) new n) (IsPush (step slots i old new none) me)
-  push_keeps sizes slots id i me old new node offset code number low small under next its_home has own_one says is s kept wide at _ =
+  push_keeps sizes slots id i me old new node offset code number low small under small_code next its_home has own_one says is s kept wide at _ =
+      let few_offsets : offset < 2048 = omega (arith, under) in
       let n = sizes.slots in let place = kept.place in let g : History E = kept.history in
       let rc : Receipt = record { pass = own_number me.0.numbers; number = number } in
       let q : Queued = record { node = node; offset = offset; code = code; receipt = rc } in
@@ -326,7 +231,7 @@ module _ {T E : Type 0} (log : T → List E) (first_id : T → ℕ) (rec : E →
       (λ hit.
       let word : slot_word k.0 ≡ old = sym found ∙ hit in
       let lf = locked_face i k.0 k.1.sound (ap code_in word ∙ says) in
-      let r : Range = lf.0 in let who : ℕ = lf.1 in let l : List E = lf.2 in let qs : List Queued = lf.3 in let got : List Receipt = lf.4 in
+      let r : Range = lf.0 in let who : ℕ = lf.1 in let l : Turn E = lf.2 in let qs : List Queued = lf.3 in let got : List Receipt = lf.4 in
       let first : first_in old ≡ r.first = sym (ap first_in word) ∙ lf.6 in
       let size : range_in old ≡ r.size = sym (ap range_in word) ∙ lf.7 in
       let head : head_in old ≡ head_of qs = sym (ap head_in word) ∙ lf.8 in
@@ -338,31 +243,38 @@ module _ {T E : Type 0} (log : T → List E) (first_id : T → ℕ) (rec : E →
       let mine_sent : me.0.sent ≡ g.sent rc.pass = counts_is g.sent me.0.numbers me.0.sent own_one (kept.sents id me.0 at) in
       let to : Place = in_queue i (length qs) in
       let place' : ℕ → Place = moved place node to in
-      let g' : History E = bumped g i r.first rc in
+      let new_one : Notice = notice_of i r.first q in
+      let g' : History E = bumped g new_one in
       let joined = pushed n i id s.words place q qs mine.0 mine.1 (mine.2 ∙ ap (λ (z : ℕ). some (node_word z offset code)) head) mine.3 ok.chain.1 ok.chain.0 in
       let ph : Phase T E = locked r who l (q ∷ qs) got in
-      let w : View E = pushing_view me.0 i r.first rc in
+      let w : View E = pushing_view me.0 new_one in
       let none_ended : (slot f : ℕ) (l : List E) → g.last slot f ≡ Some l → (a : ℕ) → extra i r.first rc slot f a ≡ [] = λ slot f l e a. dite (ℕ_discrete slot i)
       (λ same. ap (λ (z : ℕ). extra i r.first rc z f a) same ∙ extra_range i r.first rc f a (λ y. none-some l (sym told.2.0 ∙ ap₂ g.last (sym same) (sym y) ∙ e)))
       (λ ne. extra_slot i r.first rc slot f a ne) in
       let goal = slot_moves log first_id rec sizes s i new id me.0 w s.homes (locked r who l qs got) ph place' g' kept at ok low refl (λ _ _. refl) ok.home_is
-      (is ∙ ap₂ (λ a b. packed_word a b 3 node) first size) (ok.sound.0, small, (subst (λ (z : ℕ). offset < z) size under, ok.sound.2)) ok.seated
+      (is ∙ ap₂ (λ a b. packed_word a b 3 node) first size) (ok.sound.0, small, ((subst (λ (z : ℕ). offset < z) size under, small_code), ok.sound.2), λ _. omega arith) ok.seated
       (λ by p ne f. record { spot = f.spot; hold = f.hold; owner = f.owner; knows = f.knows; turn = f.turn; taking = f.taking; ended_below = f.ended_below; got = f.got })
       (let f = ok.fits id me.0 at in subst (IsPart log ph id) (sym (part_here me.0.parts i (part_with_receipt (part_of me.0 i) r.first rc))) record
       { spot = f.spot; hold = f.hold; owner = f.owner; knows = f.knows; turn = f.turn; taking = f.taking; ended_below = f.ended_below; got = f.got })
       (λ slot ne. part_else me.0.parts i slot (part_with_receipt (part_of me.0 i) r.first rc) ne) refl refl
       (joined.1, joined.0, whole_more place i (length qs) q qs ok.chain.2) (λ slot p ne c. chains_else n node id slot i (length qs) place s.words p ne mine.1 c) (
-        at_push (g.numbered i r.first) (g'.numbered i r.first) (receipts_in rec l) got q qs told.0 (λ a. ap (λ z. g.numbered i r.first a ++ z) (extra_here i r.first rc a)),
+        at_push (g.numbered i r.first) (g'.numbered i r.first) (receipts_in rec l.log) got q qs told.0 (λ a. ap (λ z. g.numbered i r.first a ++ z) (extra_here i r.first rc a)),
         (λ f more. ((λ a. ap₂ (λ (x y : List ℕ). x ++ y) ((told.1 f more).0 a) (extra_range i r.first rc f a (λ e. omega (arith, e, more)))), (told.1 f more).1)),
         told.2,
         (its_home ∙ ap (λ (z : ℕ). pass_of_node z node) (sym kept.wide), told.3),
+        (
+          noticed_new g new_one (next ∙ mine_sent),
+          all_map (λ x. IsNoticed g (notice_of i r.first x)) (λ x. IsNoticed g' (notice_of i r.first x)) qs (λ x. noticed_more g new_one (notice_of i r.first x) (next ∙ mine_sent)) told.4,
+        ),
       )
-      (λ slot p ne t. told_else g g' slot p refl (λ f a. sym (ap (λ y. g.numbered slot f a ++ y) (extra_slot i r.first rc slot f a ne) ∙ append-nil (g.numbered slot f a))) refl refl t)
+      (λ slot p ne t. told_else g g' slot p (λ x. noticed_more g new_one x (next ∙ mine_sent)) refl (λ f a. sym (ap (λ y. g.numbered slot f a ++ y) (extra_slot i r.first rc slot f a ne) ∙ append-nil (g.numbered slot f a))) refl refl t)
       (λ slot f l e. subst (λ (z : ℕ → List ℕ). AreSettled z (receipts_in rec l) (g.lost slot f))
       (λ z a. (sym (ap (λ y. g.numbered slot f a ++ y) (none_ended slot f l e a) ∙ append-nil (g.numbered slot f a))) z) (kept.over slot f l e))
       (λ m. dite (ℕ_discrete m node) (λ e. subst (λ b. IsPlaced (length s.views) (if b then to else place m)) (sym (eq-eqb m node e)) tt)
       (λ ne. subst (λ b. IsPlaced (length s.views) (if b then to else place m)) (sym (ne_eqb m node ne)) (kept.placed m)))
-      refl (λ s f a. rises_more g i r.first rc s f a (next ∙ mine_sent) (kept.rise s f a))
+      (λ m more. dite (ℕ_discrete m node) (λ e. absurd (held_idle (sym mine.1 ∙ kept.beyond node (subst (λ (z : ℕ). sizes.passes * sizes.nodes < z) e more))))
+      (λ ne. ap (λ b. if b then to else place m) (ne_eqb m node ne) ∙ kept.beyond m more))
+      refl (λ s f a. rises_more g new_one s f a (next ∙ mine_sent) (kept.rise s f a))
       (λ a more. ap (λ (b : Bool). if b then g.sent a + 1 else g.sent a) (ne_eqb a rc.pass (λ e. omega (arith, e, more, low_number))) ∙ kept.unsent a more)
       (views_after s.views id w (λ _ u. HasSent g'.sent u.numbers u.sent) (counts_own g.sent rc.pass me.0.numbers me.0.sent refl own_one (kept.sents id me.0 at))
       (λ by u ne e. counts_other g.sent rc.pass u.numbers u.sent (λ z. other_number kept.at.2.count by kept.at.2.holder rc.pass u.numbers z (kept.at.2.each by u e).1 (λ y. ne (sym y ∙ own)))
@@ -372,8 +284,12 @@ module _ {T E : Type 0} (log : T → List E) (first_id : T → ℕ) (rec : E →
       (λ by u ne e. hands_moved n node id by i (length qs) place s.words u.hand mine.1 ne (kept.hands by u e)))
       (λ by u e. let l = views_after s.views id w (λ by u. IsTakenList n s.words place by u.taken) (kept.lists id me.0 at) (λ by u ne e. kept.lists by u e) by u e in
       listed_moved n node id i (length qs) by place s.words u.taken mine.1 l)
-      (views_after s.views id w (IsInformed g' kept.at.2.holder) (tells_push g kept.at.2.holder id i r.first rc me.0 own (kept.tells id me.0 at))
-      (λ by u ne e. tells_more g kept.at.2.holder id by i r.first rc u own ne (kept.tells by u e)))
+      (views_after s.views id w (IsInformed g' kept.at.2.holder) (tells_push g kept.at.2.holder id new_one me.0 own (kept.tells id me.0 at))
+      (λ by u ne e. tells_more g kept.at.2.holder id by new_one u own ne (kept.tells by u e)))
+      (views_after s.views id w (λ _ u. AreAll (IsNoticed g') u.notices)
+      (all_joined (IsNoticed g') me.0.notices (new_one ∷ []) (all_map (IsNoticed g) (IsNoticed g') me.0.notices (λ x. noticed_more g new_one x (next ∙ mine_sent)) (kept.noticed id me.0 at))
+      (noticed_new g new_one (next ∙ mine_sent), tt))
+      (λ by u ne e. all_map (IsNoticed g) (IsNoticed g') u.notices (λ x. noticed_more g new_one x (next ∙ mine_sent)) (kept.noticed by u e)))
       (λ a one few. nodes_else n node a (kept.at.2.holder (pass_of_node sizes.nodes a)) i (length qs) place s.words (node_word (head_in old) offset code, mine.2, omega arith)
       (kept.nodes a one few)) in (
         w,
@@ -381,14 +297,23 @@ module _ {T E : Type 0} (log : T → List E) (first_id : T → ℕ) (rec : E →
         tt,
         goal,
         (
-          (λ _ h e. λ z. (
-            pushing_view me.0 i (sym first z) record {
-              pass = own_number me.0.numbers;
-              number = ap (λ (t : ℕ × ℕ × ℕ). t.2) (same_Some (node, node_word (head_in old) offset code, number) h (sym has ∙ e)) z;
-            },
-            me.1,
-          )),
+          (λ _ h e. let same = same_Some (node, node_word (head_in old) offset code, number) h (sym has ∙ e) in
+              let offset_is : offset ≡ offset_in (node_word (head_in old) offset code) = omega (arith, few_offsets, small_code) in
+              let code_is : code ≡ error_in (node_word (head_in old) offset code) = omega (arith, few_offsets, small_code) in
+              (λ z. (
+                pushing_view me.0 record {
+                  slot = i;
+                  first = sym first z;
+                  offset = (offset_is ∙ ap (λ (t : ℕ × ℕ × ℕ). offset_in t.1) same) z;
+                  code = (code_is ∙ ap (λ (t : ℕ × ℕ × ℕ). error_in t.1) same) z;
+                  receipt = record { pass = own_number me.0.numbers; number = ap (λ (t : ℕ × ℕ × ℕ). t.2) same z };
+                },
+                me.1,
+              ))),
           λ miss. absurd (miss hit),
         ),
       ))
       (λ miss. (view_after_load me.0 i (slice_index s.words i), keeps, tt, load_kept log first_id rec sizes s i id me.0 kept at low, ((λ hit. absurd (miss hit)), λ _. refl)))
+    where
+      held_idle : in_hand id ≡ idle → ⊥
+      held_idle e = absurd (cc)

@@ -17,8 +17,9 @@ use Rattle.id_rule.specs.Nodes.{head_of}
 use Rattle.id_rule.specs.Parts.{part_of, view_with}
 use Rattle.id_rule.specs.Changes.{part_with_spot, part_with_ended_below, view_after_load}
 use Rattle.id_rule.specs.Phases.{Phase, vacant, reserved, free, locked, ended, taken, retired, slot_word, HasEnded, IsPart, IsSound}
-use Rattle.id_rule.specs.Rule.{IsTold, IsSlot, IsKept}
+use Rattle.id_rule.specs.Rule.{HasInHand, IsTold, IsSlot, IsKept}
 use Rattle.id_rule.specs.Steps.{Mine, IsLook, IsReserving, IsGivingUp}
+use Rattle.id_rule.proofs.Accounts.{accounted_after}
 use Rattle.id_rule.proofs.Lists.{there_below, index_is, code_is, first_is, range_is}
 use Rattle.id_rule.proofs.Steps.{slot_steps, StepKeeps}
 use Rattle.id_rule.specs.declared.view.Receipt.{Receipt}
@@ -64,7 +65,7 @@ module _ {T E : Type 0} (log : T → List E) (first_id : T → ℕ) (rec : E →
   most g n m e low = omega (arith, e, low)
 
   -- a load sees which versions have ended
-  seen_gone : (slot : ℕ) (ph : Phase T E) (g : ℕ) → IsSound first_id slot ph → HasEnded ph g → HasEnded ph (max g (ended_below_in (slot_word ph)))
+  pub seen_gone : (slot : ℕ) (ph : Phase T E) (g : ℕ) → IsSound first_id slot ph → HasEnded ph g → HasEnded ph (max g (ended_below_in (slot_word ph)))
   seen_gone slot (vacant f) g h e = most g (ended_below_in (packed_word f 0 0 0)) f
       (plain_gone (packed_word f 0 0 0) (λ z. omega arith) (λ z. omega arith) ∙ first_is f 0 0 0 (omega arith) (omega arith) (omega arith) (omega arith)) e
   seen_gone slot (reserved f r who) g h e = most g (ended_below_in (packed_word f r 1 0)) f
@@ -107,7 +108,7 @@ module _ {T E : Type 0} (log : T → List E) (first_id : T → ℕ) (rec : E →
       (λ by q ne fit. fit) fits k.1.chain (refl, refl, refl, refl) k.2
 
   -- a load of a slot's word keeps the rule, and shows no version live that the pass has seen end
-  pub look_keeps : (sizes : Sizes) (slots id i : ℕ) (me : Mine T E) → i < sizes.slots → Allows (IsKept log first_id rec sizes) slots id me i (λ n. n) (IsLook (step slots i 0 0 none) me)
+  pub look_keeps : (sizes : Sizes) (slots id i : ℕ) (me : Mine T E) → i < sizes.slots → Allows (IsKept log first_id rec sizes) slots id me i (λ n. n) (IsLook rec (step slots i 0 0 none) me)
   look_keeps sizes slots id i me low s kept wide at _ =
       let k = kept.at.1 i (subst (λ (z : ℕ). i < z) (sym kept.at.0) low) in
       let n : ℕ = slice_index s.words i in
@@ -120,7 +121,10 @@ module _ {T E : Type 0} (log : T → List E) (first_id : T → ℕ) (rec : E →
         (
           refl,
           subst (λ (z : ℕ). z < 2 ^ 62) (sym found) (face_small i k.0 k.1.sound),
-          λ v live. not_live i k.0 (part_of me.0 i).ended_below v k.1.sound f.ended_below (ap (λ (z : ℕ). is_live_in z v) (sym found) ∙ live),
+          (λ v live. not_live i k.0 (part_of me.0 i).ended_below v k.1.sound f.ended_below (ap (λ (z : ℕ). is_live_in z v) (sym found) ∙ live)),
+          accounted_after log first_id rec sizes record { words = set s.words i n; homes = s.homes; views = s.views } id (view_after_load me.0 i n) (load_kept sizes s i id me.0 kept at low)
+              (there_below s.views id me.0 at),
+          (λ h has. (subst (HasInHand sizes.slots s.words kept.place id) has (kept.hands id me.0 at)).0),
         ),
       )
 

@@ -1,7 +1,8 @@
 -- Seats, parts and numbers when a pass takes in another.
 use Rattle.std.proofs.Common.{⊎_elim, inl, inr, ◌⊎◌, ◌≡◌, ◌≢◌, ℕ, ◌<◌, eq-eqb, ne_eqb, List, [], ◌∷◌, ◌++◌, append-nil, refl, sym, ap, ap₂, ◌∙◌, subst, arith, Option}
 use Rattle.std.proofs.Common.{Some, None}
-use Rattle.std.specs.Prelude.{◌==◌, if◌then◌else◌, max}
+use Rattle.std.specs.Prelude.{◌==◌, if◌then◌else◌, max, reverse}
+use Rattle.std.proofs.lemmas.List.{reverse-append}
 use mathlib.Core.Logic.{dite}
 use native.Mathlib.Decide.{ℕ_discrete}
 use Rattle.id_rule.specs.Receipts.{HasSent}
@@ -10,7 +11,7 @@ use Rattle.id_rule.specs.Changes.{either_of, joined_part, joined_parts}
 use Rattle.id_rule.specs.Phases.{Range, Phase, vacant, reserved, free, locked, ended, taken, retired, AreBefore, AreWithin}
 use Rattle.id_rule.specs.declared.view.Known.{Known}
 use Rattle.id_rule.specs.declared.view.Part.{Part}
-use Rattle.id_rule.proofs.Turns.{yes_if, no_if}
+use Rattle.id_rule.proofs.Lists.{yes_if, no_if}
 
 -- the seat after the join: the other's is now the first's
 abbrev pub seat_now : ℕ → ℕ → ℕ → ℕ
@@ -144,14 +145,14 @@ has_joined a [] ms h = inr h
 has_joined a (n ∷ ns) ms h = ⊎_elim (λ t. inl (inl t)) (λ t. ⊎_elim (λ u. inl (inr u)) inr (has_joined a ns ms t)) h
 
 -- what holds of both lists holds of them together
-pub each_both : (P : ℕ → Type 0) (ns ms : List ℕ) → AreAll P ns → AreAll P ms → AreAll P (ns ++ ms)
-each_both P [] ms a b = b
-each_both P (n ∷ ns) ms a b = (a.0, each_both P ns ms a.1 b)
+pub all_joined : {X : Type 0} (P : X → Type 0) (xs ys : List X) → AreAll P xs → AreAll P ys → AreAll P (xs ++ ys)
+all_joined {X} P [] ys a b = b
+all_joined {X} P (x ∷ xs) ys a b = (a.0, all_joined P xs ys a.1 b)
 
--- what follows for each element holds of the list
-pub each_map : (P Q : ℕ → Type 0) (ns : List ℕ) → ((n : ℕ) → P n → Q n) → AreAll P ns → AreAll Q ns
-each_map P Q [] f a = tt
-each_map P Q (n ∷ ns) f a = (f n a.0, each_map P Q ns f a.1)
+-- what holds of each element holds of them in the other order
+pub all_reversed : {X : Type 0} (P : X → Type 0) (xs : List X) → AreAll P xs → AreAll P (reverse xs)
+all_reversed {X} P [] all = tt
+all_reversed {X} P (x ∷ xs) all = subst (AreAll P) (sym (reverse-append (x ∷ []) xs)) (all_joined P (reverse xs) (x ∷ []) (all_reversed P xs all.1) (all.0, tt))
 
 -- the first pass's own number has numbered as much as before
 pub counts_join : (sent : ℕ → ℕ) (ns ms : List ℕ) (n : ℕ) → HasNumber (own_number ns) ns → HasSent sent ns n → HasSent sent (ns ++ ms) n

@@ -1,18 +1,17 @@
 -- Two passes that have the same claim on a slot are one, and an owned slot isn't vacant.
-use Rattle.std.proofs.Common.{◌≡◌, ◌≢◌, ℕ, ◌+◌, ◌*◌, ◌/◌, ◌%◌, ◌<◌, ◌≤◌, eq-eqb, ne_eqb, List, refl, sym, ap, ◌∙◌, subst, arith, Option, Some, None}
+use Rattle.std.proofs.Common.{◌≡◌, ◌≢◌, ℕ, ◌<◌, List, sym, ap, ◌∙◌, subst, arith, Option, Some, None}
 use Rattle.std.specs.Prelude.{◌==◌, if◌then◌else◌}
 use Rattle.std.proofs.lemmas.Option.{none-some, same_Some}
 use mathlib.Core.Logic.{dite}
-use mathlib.Core.Option.{some, some-injective}
+use mathlib.Core.Option.{some-injective}
 use native.Mathlib.Decide.{ℕ_discrete}
 use Rattle.rpc_model.specs.Gone.{code_in, first_in}
-use Rattle.id_rule.specs.Laws.{IsOnePass, OneHolder, OwnedSlotsStay}
-use Rattle.id_rule.specs.declared.view.Part.{Part}
+use Rattle.id_rule.specs.Laws.{OneHolder, OwnedSlotsStay}
 use Rattle.id_rule.specs.declared.view.Receipt.{Receipt}
 use Rattle.id_rule.specs.Nodes.{head_of}
-use Rattle.id_rule.specs.Phases.{Phase, vacant, reserved, free, locked, ended, taken, retired, slot_word, spot_of, hold_of, owner_of, IsPart, IsSound}
+use Rattle.id_rule.specs.Phases.{Phase, vacant, reserved, free, locked, ended, taken, retired, slot_word, spot_of, hold_of, owner_of, IsSound}
 use Rattle.id_rule.proofs.Lists.{code_is, first_is}
-use Rattle.id_rule.proofs.Turns.{yes_if, no_if}
+use Rattle.id_rule.proofs.Lists.{yes_if, no_if}
 
 -- who has something by a choice is the one that was chosen
 chosen : {A : Type 0} (n m : ℕ) (x y : A) → (if n == m then Some x else None) ≡ Some y → (n ≡ m) × (x ≡ y)
@@ -22,7 +21,7 @@ chosen n m x y e = dite (ℕ_discrete n m)
 
 module _ {T E : Type 0} where
   -- one seat has the Spot
-  one_spot : (ph : Phase T E) (a b : ℕ) (r q : ℕ × ℕ) → spot_of ph a ≡ Some r → spot_of ph b ≡ Some q → a ≡ b
+  pub one_spot : (ph : Phase T E) (a b : ℕ) (r q : ℕ × ℕ) → spot_of ph a ≡ Some r → spot_of ph b ≡ Some q → a ≡ b
   one_spot (vacant f) a b r q e h = absurd (none-some r e)
   one_spot (reserved f k who) a b r q e h = sym (chosen who a (f, k) r e).0 ∙ (chosen who b (f, k) q h).0
   one_spot (free g x) a b r q e h = absurd (none-some r e)
@@ -32,7 +31,7 @@ module _ {T E : Type 0} where
   one_spot (retired f) a b r q e h = absurd (none-some r e)
 
   -- one seat has the Hold
-  one_hold : (ph : Phase T E) (a b : ℕ) (r q : ℕ × ℕ) → hold_of ph a ≡ Some r → hold_of ph b ≡ Some q → a ≡ b
+  pub one_hold : (ph : Phase T E) (a b : ℕ) (r q : ℕ × ℕ) → hold_of ph a ≡ Some r → hold_of ph b ≡ Some q → a ≡ b
   one_hold (vacant f) a b r q e h = absurd (none-some r e)
   one_hold (reserved f k who) a b r q e h = absurd (none-some r e)
   one_hold (free g x) a b r q e h = absurd (none-some r e)
@@ -42,7 +41,7 @@ module _ {T E : Type 0} where
   one_hold (retired f) a b r q e h = absurd (none-some r e)
 
   -- one seat has the Owner
-  one_owner : (ph : Phase T E) (a b : ℕ) (r q : ℕ × ℕ) → owner_of ph a ≡ Some r → owner_of ph b ≡ Some q → a ≡ b
+  pub one_owner : (ph : Phase T E) (a b : ℕ) (r q : ℕ × ℕ) → owner_of ph a ≡ Some r → owner_of ph b ≡ Some q → a ≡ b
   one_owner (vacant f) a b r q e h = absurd (none-some r e)
   one_owner (reserved f k who) a b r q e h = absurd (none-some r e)
   one_owner (free g x) a b r q e h = sym (chosen g.owner a (g.first, g.size) r e).0 ∙ (chosen g.owner b (g.first, g.size) q h).0

@@ -10,7 +10,7 @@ use lib.ListN.{get_elem?}
 use Rattle.atomic_table.specs.Table.{State, Act, Valid, carried_after, stepped}
 use Rattle.atomic_table.proofs.Lists.{set_else}
 use Rattle.id_rule.specs.Nodes.{Place, idle, in_hand, in_queue, on_list, word_at, pass_of_node, IsTakenList, IsPlaced, IsNode, numbers_of}
-use Rattle.id_rule.specs.Receipts.{History, HasSent, IsRisingBelow, receipts_of_range, receipts_in, AreSettled}
+use Rattle.id_rule.specs.Receipts.{History, IsNoticed, HasSent, IsRisingBelow, receipts_of_range, receipts_in, AreSettled}
 use Rattle.id_rule.specs.Parts.{HasNumber, part_of, view_with, HasLog, AreAll}
 use Rattle.id_rule.specs.Phases.{Phase, vacant, reserved, free, locked, ended, taken, retired, slot_word, home_value, IsPart, IsSeated, IsSound}
 use Rattle.id_rule.specs.Rule.{IsChained, HasInHand, IsTold, IsInformed, IsSlot, AreApart, IsNumbered, IsKept}
@@ -71,16 +71,17 @@ module _ {T E : Type 0} (log : T → List E) (first_id : T → ℕ) (rec : E →
       → IsChained sizes.slots place' i s.words ph' → ((slot : ℕ) (p : Phase T E) → slot ≢ i → IsChained sizes.slots kept.place slot s.words p → IsChained sizes.slots place' slot s.words p)
       → IsTold log rec g' i ph' → ((slot : ℕ) (p : Phase T E) → slot ≢ i → IsTold log rec kept.history slot p → IsTold log rec g' slot p)
       → ((slot f : ℕ) (l : List E) → g'.last slot f ≡ Some l → AreSettled (g'.numbered slot f) (receipts_in rec l) (g'.lost slot f))
-      → ((m : ℕ) → IsPlaced (length s.views) (place' m)) → g'.width ≡ kept.history.width → ((slot f a : ℕ) → IsRisingBelow (g'.numbered slot f a) (g'.sent a))
+      → ((m : ℕ) → IsPlaced (length s.views) (place' m)) → ((m : ℕ) → sizes.passes * sizes.nodes < m → place' m ≡ idle) → g'.width ≡ kept.history.width → ((slot f a : ℕ) → IsRisingBelow (g'.numbered slot f a) (g'.sent a))
       → ((a : ℕ) → kept.at.2.count ≤ a → g'.sent a ≡ 0) → ((by : ℕ) (u : View E) → get_elem? (set s.views id w) by ≡ some u → HasSent g'.sent u.numbers u.sent)
       → ((slot f : ℕ) → (g'.ender slot f < length s.views) × ((a : ℕ) → kept.at.2.count ≤ a → g'.numbered slot f a ≡ []))
       → ((by : ℕ) (u : View E) → get_elem? (set s.views id w) by ≡ some u → HasInHand sizes.slots s.words place' by u.hand)
       → ((by : ℕ) (u : View E) → get_elem? (set s.views id w) by ≡ some u → IsTakenList sizes.slots s.words place' by u.taken)
       → ((by : ℕ) (u : View E) → get_elem? (set s.views id w) by ≡ some u → IsInformed g' kept.at.2.holder by u)
+      → ((by : ℕ) (u : View E) → get_elem? (set s.views id w) by ≡ some u → AreAll (IsNoticed g') u.notices)
       → ((node : ℕ) → 1 ≤ node → node ≤ sizes.passes * sizes.nodes → IsNode sizes.slots s.words node (kept.at.2.holder (pass_of_node sizes.nodes node)) (place' node))
       → IsKept log first_id rec sizes record { words = set s.words i n; homes = hs'; views = set s.views id w }
-  slot_moves sizes s i n id v w hs' ph ph' place' g' kept at ok low long away there is sound seats others mine same numbers next linked linked_else told told_else over placed wide rise unsent
-      sents news hands lists tells nodes = let k = sizes.slots in record {
+  slot_moves sizes s i n id v w hs' ph ph' place' g' kept at ok low long away there is sound seats others mine same numbers next linked linked_else told told_else over placed beyond wide rise unsent
+      sents news hands lists tells noticed nodes = let k = sizes.slots in record {
         place = place';
         history = g';
         at = (
@@ -115,6 +116,8 @@ module _ {T E : Type 0} (log : T → List E) (first_id : T → ℕ) (rec : E →
         nodes = λ node a b. node_else k i n node (kept.at.2.holder (pass_of_node sizes.nodes node)) s.words (place' node) low (nodes node a b);
         lists = λ by u e. let l = lists by u e in (linked_slot k i n s.words u.taken low l.0, l.1, l.2);
         tells = tells;
+        noticed = noticed;
+        beyond = beyond;
         over = over;
         wide = wide ∙ kept.wide;
         rise = rise;
@@ -167,12 +170,13 @@ module _ {T E : Type 0} (log : T → List E) (first_id : T → ℕ) (rec : E →
       → IsKept log first_id rec sizes record { words = set s.words i n; homes = hs'; views = set s.views id (view_with v seen i p) }
   slot_steps sizes s i n id v seen p hs' ph ph' kept at ok low long away there is sound seats others mine linked alike told = let w : View E = view_with v seen i p in
       slot_moves sizes s i n id v w hs' ph ph' kept.place kept.history kept at ok low long away there is sound seats others (subst (IsPart log ph' id) (sym (part_here v.parts i p)) mine)
-      (λ slot ne. part_else v.parts i slot p ne) refl refl linked (λ slot q ne c. c) told (λ slot q ne t. t) kept.over kept.placed refl kept.rise kept.unsent
+      (λ slot ne. part_else v.parts i slot p ne) refl refl linked (λ slot q ne c. c) told (λ slot q ne t. t) kept.over kept.placed kept.beyond refl kept.rise kept.unsent
       (views_after s.views id w (λ _ u. HasSent kept.history.sent u.numbers u.sent) (kept.sents id v at) (λ by u ne e. kept.sents by u e)) kept.news
       (views_after s.views id w (λ by u. HasInHand sizes.slots s.words kept.place by u.hand) (kept.hands id v at) (λ by u ne e. kept.hands by u e))
       (views_after s.views id w (λ by u. IsTakenList sizes.slots s.words kept.place by u.taken) (kept.lists id v at) (λ by u ne e. kept.lists by u e))
       (views_after s.views id w (IsInformed kept.history kept.at.2.holder) (tells_same kept.history kept.at.2.holder id v w (changed_same v seen i p alike) (kept.tells id v at))
       (λ by u ne e. kept.tells by u e))
+      (views_after s.views id w (λ _ u. AreAll (IsNoticed kept.history) u.notices) (kept.noticed id v at) (λ by u ne e. kept.noticed by u e))
       kept.nodes
 
   -- what a step owes once the number found is known: a view and an act that keep the rule, and what the pass is told

@@ -1,10 +1,9 @@
-pub mod Carried
+pub mod Accounts
 pub mod Changes
 pub mod Laws
 pub mod Nodes
 pub mod Parts
 pub mod Phases
-pub mod Quiet
 pub mod Receipts
 pub mod Rule
 pub mod Steps

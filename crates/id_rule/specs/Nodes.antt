@@ -1,9 +1,10 @@
 -- The nodes in which errors wait, and the chains that they make. Two words of the table for each node, behind those of the slots; this project's own choice.
-use Rattle.std.specs.Prelude.{◌≡◌, ℕ, ◌+◌, ◌*◌, ◌-◌, ◌/◌, ◌<◌, ◌≤◌, ◌⊎◌, List, [], ◌∷◌, ◌++◌, ◌==◌, if◌then◌else◌, length}
+use Rattle.std.specs.Prelude.{◌≡◌, ℕ, ◌+◌, ◌*◌, ◌-◌, ◌/◌, ◌%◌, ◌<◌, ◌≤◌, ◌⊎◌, List, [], ◌∷◌, ◌++◌, ◌==◌, if◌then◌else◌, length}
 use mathlib.Core.Option.{some}
 use lib.ListN.{get_elem?}
 use Rattle.id_rule.specs.declared.view.Receipt.{Receipt}
 use Rattle.id_rule.specs.declared.view.Queued.{Queued}
+use Rattle.id_rule.specs.declared.view.Notice.{Notice}
 
 -- Where a node is: free, in the hand of a seat's running call, in the chain of a slot, or on the list that a holder took. The last number is how many
 -- nodes stand behind it
@@ -15,7 +16,17 @@ pub data Place : Type 0 where
 
 -- the first word of a node that waits: the next node, the error's code and its offset in the range. A free node's is 0
 abbrev pub node_word : ℕ → ℕ → ℕ → ℕ
-node_word next offset code = next + code * 65536 + offset * 4294967296 + 4398046511104
+node_word next offset code = next + code * 65536 + offset * 4294967296 + 8796093022208
+
+-- the node that a waiting node's first word names, the error's code in it, and its offset
+abbrev pub next_in : ℕ → ℕ
+next_in w = w % 65536
+
+abbrev pub error_in : ℕ → ℕ
+error_in w = w / 65536 % 65536
+
+abbrev pub offset_in : ℕ → ℕ
+offset_in w = w / 4294967296 % 2048
 
 -- the node at the head of a chain, 0 where it is empty
 abbrev pub head_of : List Queued → ℕ
@@ -93,3 +104,12 @@ numbers_of pass (r ∷ rs) = number_if pass r ++ numbers_of pass rs
 abbrev pub receipts_of : List Queued → List Receipt
 receipts_of [] = []
 receipts_of (q ∷ qs) = q.receipt ∷ receipts_of qs
+
+-- the error of a node in the chain of a slot's range with this first version
+abbrev pub notice_of : ℕ → ℕ → Queued → Notice
+notice_of slot first q = record { slot = slot; first = first; offset = q.offset; code = q.code; receipt = q.receipt }
+
+-- the errors of such a chain, last queued first
+abbrev pub notices_of : ℕ → ℕ → List Queued → List Notice
+notices_of slot first [] = []
+notices_of slot first (q ∷ qs) = notice_of slot first q ∷ notices_of slot first qs

@@ -68,38 +68,43 @@ module _ {E : Type 0} where
 
   -- the view with another part of the slot, and these words seen
   abbrev pub view_with : View E → List (ℕ × ℕ) → ℕ → Part E → View E
-  view_with v seen slot p = record {
-    numbers = v.numbers;
-    width = v.width;
-    sent = v.sent;
-    next = v.next;
-    seen = seen;
-    parts = (slot, p) ∷ v.parts;
-    hand = v.hand;
-    taken = v.taken;
-  }
+  view_with v seen slot p = record v { seen = seen; parts = (slot, p) ∷ v.parts }
 
   -- the view of a pass that was joined away
   abbrev pub spent_view : View E
-  spent_view = record { numbers = []; width = 0; sent = 0; next = None; seen = []; parts = []; hand = None; taken = [] }
+  spent_view =
+      record { numbers = []; width = 0; total = 0; sent = 0; next = None; seen = []; parts = []; hand = None; taken = []; notices = [] }
 
-  -- the first view of a table whose passes have so many nodes each
-  abbrev pub opening_view : ℕ → View E
-  opening_view nodes = record { numbers = 0 ∷ []; width = nodes; sent = 0; next = Some 1; seen = []; parts = []; hand = None; taken = [] }
+  -- the first view of a table whose passes have so many nodes each, and so many together
+  abbrev pub opening_view : ℕ → ℕ → View E
+  opening_view nodes total = record {
+    numbers = 0 ∷ [];
+    width = nodes;
+    total = total;
+    sent = 0;
+    next = Some 1;
+    seen = [];
+    parts = [];
+    hand = None;
+    taken = [];
+    notices = [];
+  }
 
   -- the view that has handed out its next number
   abbrev pub giving_view : View E → View E
-  giving_view v = record {
-    numbers = v.numbers;
-    width = v.width;
-    sent = v.sent;
-    next = next_after v.next;
-    seen = v.seen;
-    parts = v.parts;
-    hand = v.hand;
-    taken = v.taken;
-  }
+  giving_view v = record v { next = next_after v.next }
 
   -- the view of a new pass, with that number
   abbrev pub given_view : View E → View E
-  given_view v = record { numbers = list_of v.next; width = v.width; sent = 0; next = None; seen = []; parts = []; hand = None; taken = [] }
+  given_view v = record {
+    numbers = list_of v.next;
+    width = v.width;
+    total = v.total;
+    sent = 0;
+    next = None;
+    seen = [];
+    parts = [];
+    hand = None;
+    taken = [];
+    notices = [];
+  }

@@ -1,6 +1,6 @@
 -- The phases of a slot, and what each says of the slot's word, of its value and of each pass. They are bthread_id's life of an id, with this project's
 -- own rules on reserving and collecting.
-use Rattle.std.specs.Prelude.{◌≡◌, ℕ, ◌+◌, ◌-◌, ◌<◌, ◌≤◌, ◌⊎◌, ◌^◌, List, [], ◌==◌, if◌then◌else◌, Option, Some, None}
+use Rattle.std.specs.Prelude.{◌≡◌, ℕ, ◌+◌, ◌-◌, ◌<◌, ◌≤◌, ◌⊎◌, ◌^◌, true, List, [], ◌==◌, if◌then◌else◌, length, Option, Some, None}
 use mathlib.Core.Option.{some, none}
 use mathlib.Core.Option as maybe
 use mathlib.Core.List.{IsPrefix}
@@ -8,6 +8,7 @@ use Rattle.id_pool.specs.Ids.{make_id}
 use Rattle.id_rule.specs.Words.{packed_word}
 use Rattle.id_rule.specs.declared.view.Queued.{Queued}
 use Rattle.id_rule.specs.declared.view.Receipt.{Receipt}
+use Rattle.id_rule.specs.declared.view.Turn.{Turn}
 use Rattle.id_rule.specs.Nodes.{head_of}
 use Rattle.id_rule.specs.Parts.{HasLog, AreAll}
 use Rattle.id_rule.specs.declared.view.Known.{Known}
@@ -24,14 +25,14 @@ abbrev pub IsRange : Range → Type 0
 IsRange r = (1 ≤ r.first) × (r.first ≤ 2 ^ 32 - 1024) × (1 ≤ r.size) × (r.size ≤ 1024)
 
 -- What a slot is, with the seats that have its Spot, its Hold and its Owner, and with the value at home or the log at the lock. The rule alone knows it.
--- Vacant: the next first version. Reserved: first version, size, seat. Free: the value at home. Locked: the holder's seat, the log at its lock, the chain
--- of errors that wait, and the receipts that the holder got since its lock. Ended: the value at home. Taken: ended, and the Owner's pass has the value
+-- Vacant: the next first version. Reserved: first version, size, seat. Free: the value at home. Locked: the holder's seat, what it knows of its lock, the
+-- chain of errors that wait, and the receipts that the holder got since its lock. Ended: the value at home. Taken: ended, and the Owner's pass has the value
 -- with this last log. Retired: the last first version
 pub data Phase (T E : Type 0) : Type 0 where
   vacant : ℕ → Phase T E
   reserved : ℕ → ℕ → ℕ → Phase T E
   free : Range → T → Phase T E
-  locked : Range → ℕ → List E → List Queued → List Receipt → Phase T E
+  locked : Range → ℕ → Turn E → List Queued → List Receipt → Phase T E
   ended : Range → T → Phase T E
   taken : Range → List E → Phase T E
   retired : ℕ → Phase T E
@@ -52,7 +53,7 @@ module _ {T E : Type 0} where
   home_value (vacant first) = some None
   home_value (reserved first size who) = some None
   home_value (free r x) = some (Some x)
-  home_value (locked r who l qs got) = none
+  home_value (locked r who l qs got) = if l.out then none else some None
   home_value (ended r x) = some (Some x)
   home_value (taken r l) = none
   home_value (retired first) = some None
@@ -107,8 +108,8 @@ module _ {T E : Type 0} where
   got_of (taken r l) by = []
   got_of (retired first) by = []
 
-  -- the log at the seat's lock
-  abbrev pub turn_of : Phase T E → ℕ → Option (List E)
+  -- what the seat knows of its lock
+  abbrev pub turn_of : Phase T E → ℕ → Option (Turn E)
   turn_of (vacant first) by = None
   turn_of (reserved first size who) by = None
   turn_of (free r x) by = None
@@ -138,12 +139,14 @@ module _ {T E : Type 0} where
   IsSeated (retired first) n = Unit {0}
 
 module _ {T E : Type 0} (first_id : T → ℕ) where
-  -- the numbers are those that a word has room for, a value at home has the range's first id, and errors that wait have their offset in the range
+  -- the numbers are those that a word has room for, a value at home has the range's first id, errors that wait have their offset in the range and a code below
+  -- 65,536, and where the holder has seen that some wait they do
   abbrev pub IsSound : ℕ → Phase T E → Type 0
   IsSound slot (vacant first) = (1 ≤ first) × (first ≤ 2 ^ 32 - 1024)
   IsSound slot (reserved first size who) = (1 ≤ first) × (first ≤ 2 ^ 32 - 1024) × (1 ≤ size) × (size ≤ 1024)
   IsSound slot (free r x) = IsRange r × (first_id x ≡ make_id slot r.first)
-  IsSound slot (locked r who l qs got) = IsRange r × (head_of qs < 65536) × AreAll (λ q. q.offset < r.size) qs
+  IsSound slot (locked r who l qs got) =
+      IsRange r × (head_of qs < 65536) × AreAll (λ q. (q.offset < r.size) × (q.code < 65536)) qs × (l.waits ≡ true → 1 ≤ length qs)
   IsSound slot (ended r x) = IsRange r × (first_id x ≡ make_id slot r.first)
   IsSound slot (taken r l) = IsRange r
   IsSound slot (retired first) = (1 ≤ first) × (first ≤ 2 ^ 32 - 1024)
@@ -163,7 +166,7 @@ module _ {T E : Type 0} (log : T → List E) where
   AreKnown (vacant first) ks = AreBefore first ks
   AreKnown (reserved first size who) ks = AreBefore first ks
   AreKnown (free r x) ks = AreWithin r.first (log x) ks
-  AreKnown (locked r who l qs got) ks = AreWithin r.first l ks
+  AreKnown (locked r who l qs got) ks = AreWithin r.first l.log ks
   AreKnown (ended r x) ks = AreWithin r.first (log x) ks
   AreKnown (taken r l) ks = AreWithin r.first l ks
   AreKnown (retired first) ks = AreBefore (first + 1) ks

@@ -1,5 +1,6 @@
 -- Receipts: what each pass numbered, and where each of its errors is now. This project's own choice.
 use Rattle.std.specs.Prelude.{◌≡◌, ℕ, ◌+◌, ◌<◌, ◌≤◌, List, [], ◌∷◌, ◌++◌, ◌==◌, if◌then◌else◌, reverse, Option, Some, None}
+use Rattle.id_rule.specs.declared.view.Notice.{Notice}
 use Rattle.id_rule.specs.declared.view.Receipt.{Receipt}
 use Rattle.id_rule.specs.declared.view.Queued.{Queued}
 use Rattle.id_rule.specs.Nodes.{numbers_of, receipts_of}
@@ -38,14 +39,19 @@ IsRising least [] = Unit {0}
 IsRising least (n ∷ ns) = (least ≤ n) × IsRising (n + 1) ns
 
 -- What happened so far, which the rule alone knows: what each pass numbered, by slot, range and pass, oldest first; of each range that ended its last
--- log, what was dropped then, and the seat that destroyed it; how many receipts each pass numbered, and how many nodes each pass has
+-- log, what was dropped then, and the seat that destroyed it; how many receipts each pass numbered, and the error of each; how many nodes each pass has
 pub record History (E : Type 0) : Type 0 where
   pub numbered : ℕ → ℕ → ℕ → List ℕ
   pub last : ℕ → ℕ → Option (List E)
   pub lost : ℕ → ℕ → List Receipt
   pub ender : ℕ → ℕ → ℕ
   pub sent : ℕ → ℕ
+  pub notice : ℕ → ℕ → Notice
   pub width : ℕ
+
+-- the error was queued so
+abbrev pub IsNoticed : {E : Type 0} → History E → Notice → Type 0
+IsNoticed g e = (e.receipt.number < g.sent e.receipt.pass) × (g.notice e.receipt.pass e.receipt.number ≡ e)
 
 -- the range hasn't ended
 abbrev pub IsGoingOn : {E : Type 0} → History E → ℕ → ℕ → Type 0

@@ -7,10 +7,10 @@ use Rattle.atomic_table.specs.Table.{State}
 use Rattle.id_rule.specs.declared.rule.Sizes.{Sizes}
 use Rattle.id_rule.specs.declared.view.Receipt.{Receipt}
 use Rattle.id_rule.specs.declared.view.View.{View}
-use Rattle.id_rule.specs.Nodes.{Place, in_hand, in_queue, word_at, IsLinked, ArePlaced, IsWhole, IsTakenList, IsPlaced, IsNode, pass_of_node, numbers_of}
+use Rattle.id_rule.specs.Nodes.{Place, in_hand, in_queue, word_at, IsLinked, ArePlaced, IsWhole, IsTakenList, IsPlaced, IsNode, pass_of_node, numbers_of, idle, notice_of}
 use Rattle.id_rule.specs.Parts.{part_of, HasLog, HasNumber, AreAll}
 use Rattle.id_rule.specs.Phases.{Phase, vacant, reserved, free, locked, ended, taken, retired, slot_word, home_value, IsSeated, IsSound, IsPart}
-use Rattle.id_rule.specs.Receipts.{History, HasSent, IsRisingBelow, receipts_of_range, receipts_in, IsGoingOn, IsFresh, AreLogged, AreWaiting, AreSettled}
+use Rattle.id_rule.specs.Receipts.{History, IsNoticed, HasSent, IsRisingBelow, receipts_of_range, receipts_in, IsGoingOn, IsFresh, AreLogged, AreWaiting, AreSettled}
 
 module _ {T E : Type 0} where
   -- a locked slot's chain has its errors in its nodes and is placed in it; no node is placed in the chain of any other slot
@@ -54,10 +54,11 @@ module _ {T E : Type 0} (log : T → List E) (rec : E → Option Receipt) where
   IsTold g slot (reserved first size who) = IsFresh g slot first
   IsTold g slot (free r x) = AreLogged (g.numbered slot r.first) (receipts_in rec (log x)) × IsFresh g slot (r.first + 1) × IsGoingOn g slot r.first
   IsTold g slot (locked r who l qs got) =
-      AreWaiting (g.numbered slot r.first) (receipts_in rec l) got qs
+      AreWaiting (g.numbered slot r.first) (receipts_in rec l.log) got qs
       × IsFresh g slot (r.first + 1)
       × IsGoingOn g slot r.first
       × AreAll (λ q. q.receipt.pass ≡ pass_of_node g.width q.node) qs
+      × AreAll (λ q. IsNoticed g (notice_of slot r.first q)) qs
   IsTold g slot (ended r x) = (g.last slot r.first ≡ Some (log x)) × IsFresh g slot (r.first + 1)
   IsTold g slot (taken r l) = (g.last slot r.first ≡ Some l) × IsFresh g slot (r.first + 1)
   IsTold g slot (retired first) = Unit {0}
@@ -96,12 +97,14 @@ module _ {T E : Type 0} (log : T → List E) (first_id : T → ℕ) (rec : E →
     pub hands : (by : ℕ) (v : View E) → get_elem? s.views by ≡ some v → HasInHand sizes.slots s.words place by v.hand
     pub lists : (by : ℕ) (v : View E) → get_elem? s.views by ≡ some v → IsTakenList sizes.slots s.words place by v.taken
     pub placed : (m : ℕ) → IsPlaced (length s.views) (place m)
+    pub beyond : (m : ℕ) → sizes.passes * sizes.nodes < m → place m ≡ idle
     pub news : (slot f : ℕ) → (history.ender slot f < length s.views) × ((a : ℕ) → at.2.count ≤ a → history.numbered slot f a ≡ [])
     pub wide : history.width ≡ sizes.nodes
     pub rise : (slot f a : ℕ) → IsRisingBelow (history.numbered slot f a) (history.sent a)
     pub unsent : (a : ℕ) → at.2.count ≤ a → history.sent a ≡ 0
     pub sents : (by : ℕ) (v : View E) → get_elem? s.views by ≡ some v → HasSent history.sent v.numbers v.sent
     pub over : (slot f : ℕ) (l : List E) → history.last slot f ≡ Some l → AreSettled (history.numbered slot f) (receipts_in rec l) (history.lost slot f)
+    pub noticed : (by : ℕ) (v : View E) → get_elem? s.views by ≡ some v → AreAll (IsNoticed history) v.notices
     pub tells : (by : ℕ) (v : View E) → get_elem? s.views by ≡ some v → IsInformed history at.2.holder by v
     pub nodes : (node : ℕ) → 1 ≤ node → node ≤ sizes.passes * sizes.nodes
         → IsNode sizes.slots s.words node (at.2.holder (pass_of_node sizes.nodes node)) (place node)

@@ -1,5 +1,5 @@
 //! Laws of the rule, each as the contract of a function that does nothing.
-ghost use Rattle.id_rule.specs.Laws.{OneHolder, OwnedSlotsStay};
+ghost use Rattle.id_rule.specs.Laws.{ErrorsAreAsQueued, OneHolder, OwnedSlotsStay};
 
 use crate::tenant::Tenant;
 
@@ -12,4 +12,10 @@ pub fn one_holder<T: Tenant>()
 /// While a pass has the Owner of a range, no other range is reserved in its slot.
 pub fn owned_slots_stay<T: Tenant>()
     ensures owned_slots_stay { OwnedSlotsStay T.log T.first_id T.receipt }
+{}
+
+/// An error that a pass took is the one that its poster queued under this receipt: to the same slot and range, to the id with
+/// the same offset, with the same code.
+pub fn errors_are_as_queued<T: Tenant>()
+    ensures as_queued { ErrorsAreAsQueued T.log T.first_id T.receipt }
 {}

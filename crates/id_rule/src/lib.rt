@@ -13,10 +13,10 @@ mod view;
 mod word;
 
 pub use plays::{
-    Empty, End, EndAndTake, Fork, Free, Front, GiveUp, Install, LetGo, Lock, Look, Merge, Pick,
-    Push, Read, Reserve, Take, TakeAll, Unlock, UnlockOrMiss, WriteFirst, WriteSecond,
+    Empty, End, Fork, Free, GiveUp, Install, Lay, LetGo, Lift, Lock, Look, Merge, Pick, Push, Read,
+    Reserve, Take, TakeAll, Unlock, WriteFirst, WriteSecond,
 };
 pub use rule::{IdRule, Sizes};
 pub use tenant::Tenant;
-pub use view::{Known, Part, Queued, Receipt, View};
+pub use view::{Known, Notice, Part, Queued, Receipt, Turn, View};
 pub use word::{State, Word, is_live, is_locked, is_vacant, pack, unpack};

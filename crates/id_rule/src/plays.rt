@@ -9,7 +9,7 @@ pub struct Look;
 impl<T: Tenant> Play<Option<T>, View<T::Entry>> for Look {
     ghost use Rattle.id_rule.specs.Steps.{IsLook};
 
-    ghost then = { IsLook };
+    ghost then = { IsLook T.receipt };
 }
 
 /// A vacant slot is reserved, or the word is another.
@@ -45,34 +45,43 @@ pub struct Lock;
 impl<T: Tenant> Play<Option<T>, View<T::Entry>> for Lock {
     ghost use Rattle.id_rule.specs.Steps.{IsLocking};
 
-    ghost then = { IsLocking T.log T.first_id };
+    ghost then = { IsLocking T.log T.first_id T.receipt };
 }
 
-/// A load that brings a held slot to the front of the pass's slots.
-pub struct Front;
+/// A load that gives a held slot back, empty.
+pub struct Lay;
 
-impl<T: Tenant> Play<Option<T>, View<T::Entry>> for Front {
-    ghost use Rattle.id_rule.specs.Carried.{IsFront};
+impl<T: Tenant> Play<Option<T>, View<T::Entry>> for Lay {
+    ghost use Rattle.id_rule.specs.Steps.{IsLaying};
 
-    ghost then = { IsFront };
+    ghost then = { IsLaying };
 }
 
-/// A locked slot is free. While no error is queued, its word is the one expected.
+/// A load that takes a held slot again.
+pub struct Lift;
+
+impl<T: Tenant> Play<Option<T>, View<T::Entry>> for Lift {
+    ghost use Rattle.id_rule.specs.Steps.{IsLifting};
+
+    ghost then = { IsLifting };
+}
+
+/// A locked slot without a head is free, or errors wait.
 pub struct Unlock;
 
 impl<T: Tenant> Play<Option<T>, View<T::Entry>> for Unlock {
-    ghost use Rattle.id_rule.specs.Quiet.{IsQuietUnlocking};
+    ghost use Rattle.id_rule.specs.Steps.{IsUnlocking};
 
-    ghost then = { IsQuietUnlocking T.log };
+    ghost then = { IsUnlocking T.log };
 }
 
-/// A locked slot is ended. While no error is queued, its word has no head.
+/// A locked slot is ended, and its chain is the pass's list.
 pub struct End;
 
 impl<T: Tenant> Play<Option<T>, View<T::Entry>> for End {
-    ghost use Rattle.id_rule.specs.Quiet.{IsQuietEnding};
+    ghost use Rattle.id_rule.specs.Steps.{IsEnding};
 
-    ghost then = { IsQuietEnding T.log T.receipt };
+    ghost then = { IsEnding T.log T.receipt };
 }
 
 /// A load by the Owner's pass, which takes the slot where its range has ended.
@@ -81,7 +90,7 @@ pub struct Take;
 impl<T: Tenant> Play<Option<T>, View<T::Entry>> for Take {
     ghost use Rattle.id_rule.specs.Steps.{IsTaking};
 
-    ghost then = { IsTaking T.log T.first_id };
+    ghost then = { IsTaking T.log T.first_id T.receipt };
 }
 
 /// An ended slot is vacant or retired.
@@ -91,24 +100,6 @@ impl<T: Tenant> Play<Option<T>, View<T::Entry>> for Empty {
     ghost use Rattle.id_rule.specs.Steps.{IsEmptying};
 
     ghost then = { IsEmptying T.receipt };
-}
-
-/// A locked slot without a head is free, or the word is another.
-pub struct UnlockOrMiss;
-
-impl<T: Tenant> Play<Option<T>, View<T::Entry>> for UnlockOrMiss {
-    ghost use Rattle.id_rule.specs.Steps.{IsUnlocking};
-
-    ghost then = { IsUnlocking T.log };
-}
-
-/// A locked slot is ended, and its chain is the pass's list.
-pub struct EndAndTake;
-
-impl<T: Tenant> Play<Option<T>, View<T::Entry>> for EndAndTake {
-    ghost use Rattle.id_rule.specs.Steps.{IsEnding};
-
-    ghost then = { IsEnding T.log T.receipt };
 }
 
 /// The first word of the node in hand is written.
@@ -162,7 +153,7 @@ pub struct TakeAll;
 impl<T: Tenant> Play<Option<T>, View<T::Entry>> for TakeAll {
     ghost use Rattle.id_rule.specs.Steps.{IsTakingAll};
 
-    ghost then = { IsTakingAll };
+    ghost then = { IsTakingAll T.receipt };
 }
 
 /// A load of a word of the first taken node.

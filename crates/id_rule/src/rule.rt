@@ -11,14 +11,15 @@ pub struct Sizes {
     pub nodes: u32,
 }
 
-/// The rule, while no error is queued. A table begins with one pass, from which the others are split.
+/// The rule. A table begins with one pass, from which the others are split.
 pub struct IdRule;
 
 impl<T: Tenant> TableRule<Option<T>, View<T::Entry>, Sizes> for IdRule {
-    ghost use Rattle.id_rule.specs.Quiet.{IsQuiet};
+    ghost use Rattle.id_rule.specs.Rule.{IsKept};
     ghost use Rattle.id_rule.specs.Parts.{opening_view};
+    ghost use Rattle.std.specs.Prelude.{◌*◌};
 
-    ghost holds = { λ sizes. IsQuiet T.log T.first_id T.receipt sizes };
+    ghost holds = { λ sizes. IsKept T.log T.first_id T.receipt sizes };
 
-    ghost first = { λ sizes. opening_view sizes.nodes };
+    ghost first = { λ sizes. opening_view sizes.nodes (sizes.passes * sizes.nodes) };
 }

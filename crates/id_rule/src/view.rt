@@ -8,6 +8,26 @@ pub struct Receipt {
     pub number: u64,
 }
 
+/// An error as it was queued: to the id at this offset in the slot's range with this first version, with this code, under
+/// this receipt.
+pub struct Notice {
+    pub slot: u64,
+    pub first: u64,
+    pub offset: u64,
+    pub code: u64,
+    pub receipt: Receipt,
+}
+
+/// What a holder's pass knows of its lock.
+pub struct Turn<E> {
+    /// The log at the lock.
+    pub log: LinkedList<E>,
+    /// Whether the slot is out with the pass, as it is within a call alone.
+    pub out: bool,
+    /// Whether the pass has seen that errors wait, and hasn't taken them yet.
+    pub waits: bool,
+}
+
 /// A log of the range with this first version.
 pub struct Known<E> {
     pub first: u64,
@@ -31,8 +51,8 @@ pub struct Part<E> {
     pub dropped: LinkedList<(u64, Receipt)>,
     /// The receipts that left the chain since its lock, oldest first.
     pub got: LinkedList<Receipt>,
-    /// The log at its lock.
-    pub turn: Option<LinkedList<E>>,
+    /// What it knows of its lock, while it has the Hold.
+    pub turn: Option<Turn<E>>,
     /// The last logs of the ranges that it collected.
     pub last: LinkedList<Known<E>>,
     /// The first versions of the ranges that it destroyed.
@@ -45,6 +65,8 @@ pub struct View<E> {
     pub numbers: LinkedList<u64>,
     /// How many nodes each pass has.
     pub width: u64,
+    /// How many nodes all passes have together.
+    pub total: u64,
     /// How many receipts it numbered under its own number.
     pub sent: u64,
     /// The number of the next new pass, where this is the first one.
@@ -57,6 +79,8 @@ pub struct View<E> {
     pub hand: Option<(u64, u64, u64)>,
     /// The nodes that its running call took, last pushed first.
     pub taken: LinkedList<Queued>,
+    /// The errors that it queued, and those that it took.
+    pub notices: LinkedList<Notice>,
 }
 
 /// An error that waits in a node.

@@ -3,14 +3,14 @@ use Rattle.std.proofs.Common.{◌≡◌, ◌≢◌, ℕ, List, [], ◌∷◌, �
 use Rattle.std.proofs.lemmas.Option.{none-some}
 use mathlib.Core.Logic.{dite}
 use native.Mathlib.Decide.{ℕ_discrete}
-use Rattle.id_rule.specs.Changes.{view_after_load, part_with_spot, part_with_hold, part_with_taking, part_without_taking}
+use Rattle.id_rule.specs.Changes.{view_after_load, part_with_spot, part_with_taking, part_without_taking}
 use Rattle.id_rule.specs.Words.{packed_word}
 use Rattle.id_rule.specs.declared.view.Part.{Part}
 use Rattle.id_rule.specs.declared.view.View.{View}
 use Rattle.id_rule.specs.Parts.{part_of, view_with}
 use Rattle.id_rule.proofs.Lists.{part_here, part_else}
 use Rattle.id_shared.specs.Answers.{IsReserved, IsTried, IsLockEnd, IsCollected, IsJoined, IsJoinSeen}
-use Rattle.id_shared.specs.Claims.{IsKeptAt, KeepsClaims, KeepsOthers, KeepsCollected, IsHolding, HasReserved, HasTried, HasLockEnd}
+use Rattle.id_shared.specs.Claims.{IsKeptAt, KeepsClaims, KeepsOthers, KeepsCollected, KeepsErrors, IsHolding, HasReserved, HasTried, HasLockEnd}
 use Rattle.id_shared.specs.declared.answers.Reserve.{Reserve}
 use Rattle.id_shared.specs.declared.answers.Reserve.TheVariants as reserve
 use Rattle.id_shared.specs.declared.answers.TryLock.{TryLock}
@@ -21,15 +21,17 @@ use Rattle.id_shared.specs.declared.answers.CollectEnd.{CollectEnd}
 use Rattle.id_shared.specs.declared.answers.CollectEnd.TheVariants as collect
 use Rattle.id_shared.specs.Standing.{Claim, Standing}
 use Rattle.id_shared.specs.Views.{words_from, words_of, view_after_loads, view_with_spot, view_with_hold, view_with_value, view_after_collect}
+use Rattle.id_rule.specs.declared.view.Receipt.{Receipt}
 use Rattle.id_shared.proofs.Loads.{one_load, loads_keep}
+use Rattle.id_shared.proofs.Parts.{HasPart, part_held, held_part}
 
 module _ {E : Type 0} where
   -- a slot whose part stays keeps its claims
-  kept_part : (v w : View E) (slot : ℕ) → part_of w slot ≡ part_of v slot → IsKeptAt v w slot
+  pub kept_part : (v w : View E) (slot : ℕ) → part_of w slot ≡ part_of v slot → IsKeptAt v w slot
   kept_part v w slot same r = ((λ h. ap (λ (z : Part E). z.spot) same ∙ h), (λ h. ap (λ (z : Part E). z.hold) same ∙ h), (λ h. ap (λ (z : Part E). z.owner) same ∙ h))
 
   -- what is kept and kept again is kept
-  kept_on : (u v w : View E) (slot : ℕ) → IsKeptAt u v slot → IsKeptAt v w slot → IsKeptAt u w slot
+  pub kept_on : (u v w : View E) (slot : ℕ) → IsKeptAt u v slot → IsKeptAt v w slot → IsKeptAt u w slot
   kept_on u v w slot a b r = ((λ h. (b r).0 ((a r).0 h)), (λ h. (b r).1 ((a r).1 h)), (λ h. (b r).2 ((a r).2 h)))
 
   -- loads keep claims
@@ -59,20 +61,28 @@ module _ {E : Type 0} where
   kept_spot : (v : View E) (c : Claim) → (part_of v c.slot).spot ≡ None → (slot : ℕ) → IsKeptAt v (view_with_spot v c) slot
   kept_spot v c bare = kept_change v v.seen c.slot (part_with_spot (part_of v c.slot) (Some (c.first, c.size))) (λ r. ((λ h. absurd (none-some r (sym bare ∙ h))), (λ h. h), (λ h. h)))
 
+  -- a change of one part that keeps its claims keeps all
+  pub kept_at_part : (i : ℕ) (v w : View E) (p : Part E) → HasPart i v p w
+      → ((r : ℕ × ℕ) → ((part_of v i).spot ≡ Some r → p.spot ≡ Some r) × ((part_of v i).hold ≡ Some r → p.hold ≡ Some r) × ((part_of v i).owner ≡ Some r → p.owner ≡ Some r))
+      → (slot : ℕ) → IsKeptAt v w slot
+  kept_at_part i v w p has all slot = dite (ℕ_discrete slot i)
+      (λ e. subst (IsKeptAt v w) (sym e) (λ r.
+      ((λ h. ap (λ (z : Part E). z.spot) has.here ∙ (all r).0 h), (λ h. ap (λ (z : Part E). z.hold) has.here ∙ (all r).1 h), (λ h. ap (λ (z : Part E). z.owner) has.here ∙ (all r).2 h))))
+      (λ ne. kept_part v w slot (has.there slot ne))
+
   -- a Hold where there was none keeps claims
-  kept_hold : (v : View E) (c : Claim) (log : List E) → (part_of v c.slot).hold ≡ None → (slot : ℕ) → IsKeptAt v (view_with_hold v c log) slot
-  kept_hold v c log bare = kept_change v v.seen c.slot (part_with_hold (part_of v c.slot) (Some (c.first, c.size)) c.first log)
+  pub kept_hold : (v : View E) (c : Claim) (log : List E) → (part_of v c.slot).hold ≡ None → (slot : ℕ) → IsKeptAt v (view_with_hold v c log) slot
+  kept_hold v c log bare = kept_at_part c.slot v (view_with_hold v c log) (part_held (part_of v c.slot) (c.first, c.size) log) (held_part v c log)
       (λ r. ((λ h. h), (λ h. absurd (none-some r (sym bare ∙ h))), (λ h. h)))
 
   -- the Hold that a lock gave
-  holding : (q : Standing E) (v : View E) (c : Claim) (log : List E) → q.view ≡ view_with_hold v c log → IsHolding q c log
+  pub holding : (q : Standing E) (v : View E) (c : Claim) (log : List E) → q.view ≡ view_with_hold v c log → IsHolding q c log
   holding q v c log is =
-      let here : part_of q.view c.slot ≡ part_with_hold (part_of v c.slot) (Some (c.first, c.size)) c.first log =
-      ap (λ w. part_of w c.slot) is ∙ part_here v.parts c.slot (part_with_hold (part_of v c.slot) (Some (c.first, c.size)) c.first log) in
+      let here : part_of q.view c.slot ≡ part_held (part_of v c.slot) (c.first, c.size) log = ap (λ w. part_of w c.slot) is ∙ (held_part v c log).here in
       (ap (λ (z : Part E). z.hold) here, ap (λ (z : Part E). z.turn) here, ap (λ (z : Part E). z.got) here)
 
   -- claims are kept along an equation of views
-  kept_to : (v u w : View E) (slot : ℕ) → u ≡ w → IsKeptAt v w slot → IsKeptAt v u slot
+  pub kept_to : (v u w : View E) (slot : ℕ) → u ≡ w → IsKeptAt v w slot → IsKeptAt v u slot
   kept_to v u w slot same = subst (λ z. IsKeptAt v z slot) (sym same)
 
   -- `reserve` keeps claims
@@ -103,6 +113,11 @@ module _ {E : Type 0} where
       kept_to p.view q.view (view_after_loads p.view (words_of a.0 (a.3.0 ++ word ∷ []))) slot (ap (λ z. z.view) a.3.1) (kept_loads p.view (words_of a.0 (a.3.0 ++ word ∷ [])) slot)
   seen_claims slots id p q None a slot = kept_part p.view q.view slot (ap (λ z. part_of z.view slot) a.1)
 
+  -- `join_seen` keeps the errors that are still to hand out
+  pub seen_errors : (slots id : ℕ) (p q : Standing E) (answer : Option ℕ) → IsJoinSeen slots id p answer q → KeepsErrors p q
+  seen_errors slots id p q (Some word) a = (ap (λ z. z.scratch) a.3.1, ap (λ z. z.holder) a.3.1)
+  seen_errors slots id p q None a = (ap (λ z. z.scratch) a.1, ap (λ z. z.holder) a.1)
+
   -- collecting keeps the claims on other slots
   kept_collect : (v : View E) (c : Claim) (log : List E) (slot : ℕ) → slot ≢ c.slot → IsKeptAt v (view_after_collect v c log) slot
   kept_collect v c log slot ne = let w = view_with_value v c log in
@@ -110,9 +125,9 @@ module _ {E : Type 0} where
       ne)
       (kept_else w w.seen c.slot (part_without_taking (part_of w c.slot)) slot ne)
 
-module _ {T E : Type 0} (log : T → List E) (first_id : T → ℕ) where
+module _ {T E : Type 0} (log : T → List E) (first_id : T → ℕ) (rec : E → Option Receipt) where
   -- `try_lock` keeps claims
-  pub tried_claims : (slots id : ℕ) (p q : Standing E) (answer : TryLock T) → IsTried log first_id slots id p answer q → KeepsClaims p q
+  pub tried_claims : (slots id : ℕ) (p q : Standing E) (answer : TryLock T) → IsTried log first_id rec slots id p answer q → KeepsClaims p q
   tried_claims slots id p q (try.Locked c x) a slot =
       let v = view_after_load p.view c.slot a.1.0 in let k = (one_load p.view c.slot a.1.0 c.slot).1 in
       kept_to p.view q.view (view_with_hold v c (log x)) slot (ap (λ z. z.view) a.1.3) (kept_on p.view v (view_with_hold v c (log x)) slot (kept_load p.view c.slot a.1.0 slot)
@@ -125,8 +140,16 @@ module _ {T E : Type 0} (log : T → List E) (first_id : T → ℕ) where
       kept_to p.view q.view (view_after_load v a.0 found) slot (ap (λ z. z.view) a.4)
       (kept_on p.view v (view_after_load v a.0 found) slot (kept_load p.view a.0 word slot) (kept_load v a.0 found slot))
 
+  -- `try_lock` keeps the errors that are still to hand out
+  pub tried_errors : (slots id : ℕ) (p q : Standing E) (answer : TryLock T) → IsTried log first_id rec slots id p answer q → KeepsErrors p q
+  tried_errors slots id p q (try.Locked c x) a = (ap (λ z. z.scratch) a.1.3, ap (λ z. z.holder) a.1.3)
+  tried_errors slots id p q (try.Held word) a = (ap (λ z. z.scratch) a.3, ap (λ z. z.holder) a.3)
+  tried_errors slots id p q (try.Gone word) a = (ap (λ z. z.scratch) a.3, ap (λ z. z.holder) a.3)
+  tried_errors slots id p q try.NoSlot a = (ap (λ z. z.scratch) a.1, ap (λ z. z.holder) a.1)
+  tried_errors slots id p q (try.Again word found) a = (ap (λ z. z.scratch) a.4, ap (λ z. z.holder) a.4)
+
   -- the Hold that `try_lock` gave
-  pub tried_holding : (slots id : ℕ) (p q : Standing E) (answer : TryLock T) → IsTried log first_id slots id p answer q → HasTried log q answer
+  pub tried_holding : (slots id : ℕ) (p q : Standing E) (answer : TryLock T) → IsTried log first_id rec slots id p answer q → HasTried log q answer
   tried_holding slots id p q (try.Locked c x) a = holding q (view_after_load p.view c.slot a.1.0) c (log x) (ap (λ z. z.view) a.1.3)
   tried_holding slots id p q (try.Held word) a = tt
   tried_holding slots id p q (try.Gone word) a = tt
@@ -134,7 +157,7 @@ module _ {T E : Type 0} (log : T → List E) (first_id : T → ℕ) where
   tried_holding slots id p q (try.Again word found) a = tt
 
   -- `lock` keeps claims
-  pub lock_claims : (slots id : ℕ) (p q : Standing E) (answer : LockEnd T) → IsLockEnd log first_id slots id p answer q → KeepsClaims p q
+  pub lock_claims : (slots id : ℕ) (p q : Standing E) (answer : LockEnd T) → IsLockEnd log first_id rec slots id p answer q → KeepsClaims p q
   lock_claims slots id p q (lock.Locked c x) a slot =
       let xs = words_of c.slot (a.1.0 ++ a.1.1.0 ∷ []) in let v = view_after_loads p.view xs in
       kept_to p.view q.view (view_with_hold v c (log x)) slot (ap (λ z. z.view) a.1.1.3) (kept_on p.view v (view_with_hold v c (log x)) slot (kept_loads p.view xs slot)
@@ -143,12 +166,19 @@ module _ {T E : Type 0} (log : T → List E) (first_id : T → ℕ) where
       let xs = words_of a.0 (a.3.0 ++ word ∷ []) in kept_to p.view q.view (view_after_loads p.view xs) slot (ap (λ z. z.view) a.3.1) (kept_loads p.view xs slot)
   lock_claims slots id p q lock.NoSlot a slot = kept_part p.view q.view slot (ap (λ z. part_of z.view slot) a.1)
 
+  -- `lock` keeps the errors that are still to hand out
+  pub lock_errors : (slots id : ℕ) (p q : Standing E) (answer : LockEnd T) → IsLockEnd log first_id rec slots id p answer q → KeepsErrors p q
+  lock_errors slots id p q (lock.Locked c x) a = (ap (λ z. z.scratch) a.1.1.3, ap (λ z. z.holder) a.1.1.3)
+  lock_errors slots id p q (lock.Gone word) a = (ap (λ z. z.scratch) a.3.1, ap (λ z. z.holder) a.3.1)
+  lock_errors slots id p q lock.NoSlot a = (ap (λ z. z.scratch) a.1, ap (λ z. z.holder) a.1)
+
   -- the Hold that `lock` gave
-  pub lock_holding : (slots id : ℕ) (p q : Standing E) (answer : LockEnd T) → IsLockEnd log first_id slots id p answer q → HasLockEnd log q answer
+  pub lock_holding : (slots id : ℕ) (p q : Standing E) (answer : LockEnd T) → IsLockEnd log first_id rec slots id p answer q → HasLockEnd log q answer
   lock_holding slots id p q (lock.Locked c x) a = holding q (view_after_loads p.view (words_of c.slot (a.1.0 ++ a.1.1.0 ∷ []))) c (log x) (ap (λ z. z.view) a.1.1.3)
   lock_holding slots id p q (lock.Gone word) a = tt
   lock_holding slots id p q lock.NoSlot a = tt
 
+module _ {T E : Type 0} (log : T → List E) (first_id : T → ℕ) where
   -- `collect` keeps the claims on other slots, and all where it hands the Owner back
   pub collected_claims : (c : Claim) (p q : Standing E) (answer : CollectEnd T) → IsCollected log first_id c p answer q → KeepsCollected c p answer q
   collected_claims c p q (collect.Value x) a = λ slot ne. kept_to p.view q.view (view_after_collect p.view c (log x)) slot (ap (λ z. z.view) a.1) (kept_collect p.view c (log x) slot ne)

@@ -17,6 +17,11 @@ module _ {E : Type 0} where
   loads_more v [] ys = refl
   loads_more v (x ∷ xs) ys = loads_more (view_after_load v x.0 x.1) xs ys
 
+  -- loads leave a pass's numbers
+  pub loads_numbers : (v : View E) (xs : List (ℕ × ℕ)) → (view_after_loads v xs).numbers ≡ v.numbers
+  loads_numbers v [] = refl
+  loads_numbers v (x ∷ xs) = loads_numbers (view_after_load v x.0 x.1) xs
+
   -- a load leaves what a pass has, and what it knows but for what has ended
   pub one_load : (v : View E) (s n slot : ℕ) → (g : ℕ) × (part_of (view_after_load v s n) slot ≡ part_with_ended_below (part_of v slot) g) × ((part_of v slot).ended_below ≤ g)
   one_load v s n slot = let p = part_of v s in dite (ℕ_discrete slot s)

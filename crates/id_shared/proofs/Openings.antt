@@ -4,8 +4,9 @@ use Rattle.std.specs.Prelude.{replicate, All}
 use mathlib.Core.Option.{some}
 use lib.ListN.{get_elem?}
 use Rattle.id_rule.specs.Nodes.{word_at}
+use Rattle.id_rule.specs.Parts.{own_number}
 use Rattle.id_shared.specs.Opening.{IsNewPass, IsRoot, IsOpened, AreOpened}
-use Rattle.id_shared.specs.Standing.{IdTable, Standing, IsPassOf}
+use Rattle.id_shared.specs.Standing.{IdTable, Standing, IsAtRest}
 
 -- the words of the slots come first
 pub slots_first : (n slot : ℕ) (more : List ℕ) → slot < n → get_elem? (replicate n 1073741824 ++ more) slot ≡ some 1073741824
@@ -39,25 +40,27 @@ nodes_behind slots nodes node one few =
 
 module _ {E : Type 0} where
   -- a new pass is one of the opened passes
-  pub opened_new : (ids : IdTable) (n : ℕ) (p : Standing E) → IsNewPass ids n p → IsOpened ids n p
-  opened_new ids n p h = (
-    (ap (λ z. z.table) h, ap (λ z. z.view.width) h),
+  pub opened_new : (ids : IdTable) (n : ℕ) (p : Standing E) → IsNewPass ids n p → n < ids.sizes.passes → IsOpened ids n p
+  opened_new ids n p h low = (
+    (ap (λ z. z.table) h, ap (λ z. z.view.width) h, ap (λ z. z.view.total) h, subst (λ (z : Standing E). own_number z.view.numbers < ids.sizes.passes) (sym h) low),
     ap (λ z. z.view.numbers) h,
     ap (λ z. z.view.sent) h,
     ap (λ z. z.view.seen) h,
     ap (λ z. z.view.parts) h,
     ap (λ z. z.words) h,
+    ap (λ z. z.scratch) h,
   )
 
   -- the first pass is the first of the opened passes
-  pub opened_root : (ids : IdTable) (n : ℕ) (p : Standing E) → IsRoot ids n p → IsOpened ids 0 p
-  opened_root ids n p h = (
-    (ap (λ z. z.table) h, ap (λ z. z.view.width) h),
+  pub opened_root : (ids : IdTable) (n : ℕ) (p : Standing E) → IsRoot ids n p → 0 < ids.sizes.passes → IsOpened ids 0 p
+  opened_root ids n p h low = (
+    (ap (λ z. z.table) h, ap (λ z. z.view.width) h, ap (λ z. z.view.total) h, subst (λ (z : Standing E). own_number z.view.numbers < ids.sizes.passes) (sym h) low),
     ap (λ z. z.view.numbers) h,
     ap (λ z. z.view.sent) h,
     ap (λ z. z.view.seen) h,
     ap (λ z. z.view.parts) h,
     ap (λ z. z.words) h,
+    ap (λ z. z.scratch) h,
   )
 
   -- one pass more at the end
@@ -66,7 +69,14 @@ module _ {E : Type 0} where
   opened_push ids n (q ∷ qs) p k e all one = (all.0, opened_push ids (n + 1) qs p k (let h = e in omega arith) all.1 one)
 
   -- the opened passes are the table's
-  pub opened_own : (ids : IdTable) (n : ℕ) (ps : List (Standing E)) → AreOpened ids n ps → All (IsPassOf ids) ps
+  pub opened_own : (ids : IdTable) (n : ℕ) (ps : List (Standing E)) → AreOpened ids n ps → All (IsAtRest ids) ps
   opened_own ids n [] all k d h = absurd (omega arith)
-  opened_own ids n (p ∷ ps) all zero d h = all.0.0
+  opened_own ids n (p ∷ ps) all zero d h = (all.0.0, all.0.6)
   opened_own ids n (p ∷ ps) all (suc k) d h = opened_own ids (n + 1) ps all.1 k d (omega arith)
+
+-- what holds for each of a list and for one more holds for each of both together
+pub all_push : {X : Type 0} (P : X → Type 0) (xs : List X) (x : X) → All P xs → P x → All P (xs ++ x ∷ [])
+all_push P [] x h p zero d k = p
+all_push P [] x h p (suc n) d k = absurd (omega arith)
+all_push P (y ∷ ys) x h p zero d k = h zero d (omega arith)
+all_push P (y ∷ ys) x h p (suc n) d k = all_push P ys x (λ m e j. h (suc m) e (omega arith)) p n d (omega arith)

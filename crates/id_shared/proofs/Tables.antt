@@ -1,5 +1,5 @@
 -- A slot of a table, and a pass of it, as the steps want them.
-use Rattle.std.proofs.Common.{◌≡◌, ℕ, ◌<◌, sym, ap, ◌∙◌, subst, arith}
+use Rattle.std.proofs.Common.{◌≡◌, ℕ, ◌*◌, ◌≤◌, ◌<◌, sym, ap, ◌∙◌, subst, arith}
 use Rattle.atomic_table.specs.Seated.{TableId}
 use Rattle.id_rule.specs.declared.rule.Sizes.{Sizes}
 use Rattle.id_shared.specs.Standing.{IdTable, Standing, IsIdTable, IsPassOf}
@@ -51,3 +51,15 @@ at_seat t seat key sizes ids slot is fit own low =
     let under : slot < t.slots = subst (λ (z : TableId). slot < z.slots) same low in
     let slots = fit.1 in let words = fit.2 in
     (same, subst (λ (z : ℕ). slot < z) as_many low, omega (arith, under, slots, words), as_many)
+
+-- how many nodes a table has
+pub table_few : (t : TableId) (key sizes : Sizes) (ids : IdTable) → record { table = t; sizes = sizes } ≡ ids → IsIdTable t key sizes → ids.sizes.passes * ids.sizes.nodes ≤ 65535
+table_few t key sizes ids is fit = subst (λ (z : IdTable). z.sizes.passes * z.sizes.nodes ≤ 65535) is fit.5
+
+-- the numbers of nodes, as the rule has them
+pub table_sizes : (t : TableId) (key sizes : Sizes) (ids : IdTable) → record { table = t; sizes = sizes } ≡ ids → IsIdTable t key sizes
+    → (ids.sizes.nodes ≡ key.nodes) × (ids.sizes.passes * ids.sizes.nodes ≡ key.passes * key.nodes)
+table_sizes t key sizes ids is fit = (
+  ap (λ (z : IdTable). z.sizes.nodes) (sym is) ∙ ap (λ (z : Sizes). z.nodes) (sym fit.0),
+  ap (λ (z : IdTable). z.sizes.passes * z.sizes.nodes) (sym is) ∙ ap (λ (z : Sizes). z.passes * z.nodes) (sym fit.0),
+)

@@ -1,18 +1,21 @@
 -- What holds while a call waits: the pass has loaded the id's slot some times.
-use Rattle.std.proofs.Common.{◌≡◌, ℕ, List, [], ◌∷◌, ◌++◌, refl, sym, ap, ◌∙◌, subst, arith, Some}
+use Rattle.std.proofs.Common.{◌≡◌, ℕ, List, [], ◌∷◌, ◌++◌, refl, sym, ap, ◌∙◌, subst, arith, Option, Some}
 use Rattle.std.specs.Prelude.{true}
 use Rattle.std.proofs.lemmas.Option.{same_Some}
 use Rattle.rpc_model.specs.Gone.{gone_by}
 use Rattle.id_rule.specs.Changes.{view_after_load, part_with_ended_below}
 use Rattle.id_rule.specs.declared.view.Part.{Part}
-use Rattle.id_rule.specs.Parts.{part_of, HasLog}
-use Rattle.id_shared.specs.Answers.{IsSlotOf, HasNoSlot, IsTried, IsLockEnd, HasSeenEnd, IsCollected, IsJoined, IsJoinSeen}
+use Rattle.id_rule.specs.Parts.{part_of, HasLog, HasNumber}
+use Rattle.id_shared.specs.Answers.{IsSlotOf, HasNoSlot, HasReceipts, IsTried, IsLockEnd, HasSeenEnd, IsCollected, IsJoined, IsJoinSeen}
 use Rattle.id_shared.specs.declared.answers.TryLock.TheVariants as try
 use Rattle.id_shared.specs.declared.answers.LockEnd.TheVariants as lock
 use Rattle.id_shared.specs.declared.answers.CollectEnd.TheVariants as collect
 use Rattle.id_shared.specs.Standing.{Claim, Standing, HasOwner}
 use Rattle.id_shared.specs.Views.{words_of, with_view, view_after_loads, view_with_hold, view_after_collect}
-use Rattle.id_shared.proofs.Loads.{loads_more, loads_keep}
+use Rattle.id_shared.proofs.Loads.{loads_more, loads_keep, loads_numbers}
+use Rattle.id_rule.specs.declared.view.Receipt.{Receipt}
+use Rattle.id_rule.specs.Nodes.{numbers_of}
+use Rattle.id_rule.specs.Receipts.{IsReordered, receipts_of_range, receipts_in}
 
 -- one word more of the slot
 words_more : (slot n : ℕ) (ns : List ℕ) → words_of slot (ns ++ n ∷ []) ≡ words_of slot ns ++ (slot, n) ∷ []
@@ -64,21 +67,24 @@ module _ {E : Type 0} where
       let now : (part_of q.view h.0).ended_below ≡ k.0 = ap (λ z. (part_of z.view h.0).ended_below) w.1 ∙ ap (λ (z : Part E). z.ended_below) k.1 in
       (h.0, h.1, omega (arith, h.2, now, k.2))
 
-module _ {T E : Type 0} (log : T → List E) (first_id : T → ℕ) where
+module _ {T E : Type 0} (log : T → List E) (first_id : T → ℕ) (rec : E → Option Receipt) where
   -- a lock after the loads
-  pub locked_end : (slots id : ℕ) (p q r : Standing E) (c : Claim) (x : T) → IsWaiting slots id p q → IsTried log first_id slots id q (try.Locked c x) r
-      → IsLockEnd log first_id slots id p (lock.Locked c x) r
+  pub locked_end : (slots id : ℕ) (p q r : Standing E) (c : Claim) (x : T) → IsWaiting slots id p q → IsTried log first_id rec slots id q (try.Locked c x) r
+      → IsLockEnd log first_id rec slots id p (lock.Locked c x) r
   locked_end slots id p q r c x was a =
       let w = was.here c.slot a.0 in let word : ℕ = a.1.0 in let lk = a.1.2 in
       let k = loads_keep p.view (words_of c.slot w.0) c.slot in
-      let now : part_of q.view c.slot ≡ part_with_ended_below (part_of p.view c.slot) k.0 = ap (λ z. part_of z.view c.slot) w.1 ∙ k.1 in (
+      let now : part_of q.view c.slot ≡ part_with_ended_below (part_of p.view c.slot) k.0 = ap (λ z. part_of z.view c.slot) w.1 ∙ k.1 in
+      let numbers : q.view.numbers ≡ p.view.numbers = ap (λ z. z.view.numbers) w.1 ∙ loads_numbers p.view (words_of c.slot w.0) in
+      let kept_receipts : HasReceipts rec p.view c.slot c.first (log x) = subst (λ (z : List ℕ × Part E). (n : ℕ) → HasNumber n z.0
+      → IsReordered (numbers_of n (receipts_of_range c.first z.1.receipts)) (numbers_of n (receipts_in rec (log x)))) (λ y. (numbers y, now y)) lk.5 in (
         a.0,
         (
           w.0,
           (
             word,
             a.1.1,
-            (lk.0, lk.1, lk.2, (λ l h. lk.3 l (subst (λ (z : Part E). HasLog z.logs c.first l) (sym now) h)), sym (ap (λ (z : Part E). z.hold) now) ∙ lk.4),
+            (lk.0, lk.1, lk.2, (λ l h. lk.3 l (subst (λ (z : Part E). HasLog z.logs c.first l) (sym now) h)), sym (ap (λ (z : Part E). z.hold) now) ∙ lk.4, kept_receipts),
             a.1.3 ∙ ap (λ z. with_view z (view_with_hold (view_after_load z.view c.slot word) c (log x))) w.1
                 ∙ ap (λ v. with_view p (view_with_hold v c (log x))) (sym (loads_more p.view (words_of c.slot w.0) ((c.slot, word) ∷ []))
                 ∙ ap (view_after_loads p.view) (sym (words_more c.slot word w.0))),
@@ -87,8 +93,8 @@ module _ {T E : Type 0} (log : T → List E) (first_id : T → ℕ) where
       )
 
   -- a refusal after the loads
-  pub gone_end : (slots id : ℕ) (p q r : Standing E) (word : ℕ) → IsWaiting slots id p q → IsTried log first_id slots id q (try.Gone word) r
-      → IsLockEnd log first_id slots id p (lock.Gone word) r
+  pub gone_end : (slots id : ℕ) (p q r : Standing E) (word : ℕ) → IsWaiting slots id p q → IsTried log first_id rec slots id q (try.Gone word) r
+      → IsLockEnd log first_id rec slots id p (lock.Gone word) r
   gone_end slots id p q r word was a =
       let w = was.here a.0 a.1 in (
         a.0,

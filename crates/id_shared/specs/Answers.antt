@@ -1,26 +1,34 @@
 -- What each answer of a call says: of the id or the range asked for, the pass before, the answer and the pass after. Locking, ending and joining by id
 -- follow bthread_id; reserving, collecting and the words that show a refusal are this project's own choice.
-use Rattle.std.specs.Prelude.{◌≡◌, ◌≢◌, ◌⊎◌, ℕ, ◌<◌, ◌≤◌, List, [], ◌∷◌, ◌++◌, length, true, Option, Some, None}
+use Rattle.std.specs.Prelude.{◌≡◌, ◌≢◌, ◌⊎◌, ℕ, ◌<◌, ◌≤◌, List, [], ◌∷◌, ◌++◌, length, reverse, true, Option, Some, None}
 use mathlib.Core.List.{IsPrefix}
 use Rattle.id_pool.specs.Ids as ids
-use Rattle.rpc_model.specs.Gone.{code_in, first_in, range_in, is_live_in, gone_by}
+use Rattle.rpc_model.specs.Gone.{code_in, head_in, first_in, range_in, is_live_in, gone_by}
 use Rattle.id_rule.specs.Changes.{view_after_load}
 use Rattle.id_rule.specs.declared.view.Known.{Known}
 use Rattle.id_rule.specs.declared.view.Receipt.{Receipt}
 use Rattle.id_rule.specs.declared.view.View.{View}
-use Rattle.id_rule.specs.Receipts.{IsGrown, IsGrownWithout}
-use Rattle.id_rule.specs.Parts.{part_of, HasLog, AreAll}
+use Rattle.id_rule.specs.declared.view.Queued.{Queued}
+use Rattle.id_rule.specs.declared.view.Turn.{Turn}
+use Rattle.id_rule.specs.Nodes.{numbers_of}
+use Rattle.id_rule.specs.Receipts.{IsReordered, IsGrown, IsGrownWithout, receipts_of_range, receipts_in}
+use Rattle.id_rule.specs.Parts.{part_of, HasLog, HasNumber, AreAll}
+use Rattle.id_rule.specs.Steps.{IsChainOf}
 use Rattle.id_rule.specs.Words.{packed_word}
+use Rattle.id_shared.specs.declared.answers.Posted.{Posted}
 use Rattle.id_shared.specs.declared.answers.Reserve.{Reserve}
 use Rattle.id_shared.specs.declared.answers.Reserve.TheVariants as reserve
 use Rattle.id_shared.specs.declared.answers.TryLock.{TryLock}
 use Rattle.id_shared.specs.declared.answers.TryLock.TheVariants as try
 use Rattle.id_shared.specs.declared.answers.LockEnd.{LockEnd}
 use Rattle.id_shared.specs.declared.answers.LockEnd.TheVariants as lock
+use Rattle.id_shared.specs.declared.answers.UnlockEnd.{UnlockEnd}
+use Rattle.id_shared.specs.declared.answers.UnlockEnd.TheVariants as unlock
 use Rattle.id_shared.specs.declared.answers.CollectEnd.{CollectEnd}
 use Rattle.id_shared.specs.declared.answers.CollectEnd.TheVariants as collect
 use Rattle.id_shared.specs.Standing.{Claim, Standing, first_id_of}
-use Rattle.id_shared.specs.Views.{words_from, words_of, with_view, view_after_loads, view_with_spot, view_with_hold, view_after_collect}
+use Rattle.id_shared.specs.Views.{words_from, words_of, with_view, view_after_loads, view_with_spot, view_with_hold, view_without_hold, view_after_pending}
+use Rattle.id_shared.specs.Views.{view_after_destroy, view_after_collect, errors_of, receipts_in_errors}
 
 -- a range may have 1 to 1,024 ids
 abbrev pub IsSize : ℕ → Type 0
@@ -80,14 +88,21 @@ module _ {E : Type 0} where
       × ((slot : ℕ) × IsFirstVacant slots slot word q.words × (q.view ≡ view_after_load (view_after_loads p.view (words_from 0 q.words)) slot found))
   IsReserved slots range p reserve.BadRange q = (range < 1 ⊎ 1024 < range) × (q ≡ p)
 
-module _ {T E : Type 0} (log : T → List E) (first_id : T → ℕ) where
-  -- the Hold is of the range in the word that the pass saw last, and the value is that range's, with a log no older than any that the pass knows
+  -- the log has, once, each receipt that the pass was given for the range
+  abbrev pub HasReceipts : (E → Option Receipt) → View E → ℕ → ℕ → List E → Type 0
+  HasReceipts rec v slot first log = (a : ℕ) → HasNumber a v.numbers
+      → IsReordered (numbers_of a (receipts_of_range first (part_of v slot).receipts)) (numbers_of a (receipts_in rec log))
+
+module _ {T E : Type 0} (log : T → List E) (first_id : T → ℕ) (rec : E → Option Receipt) where
+  -- The Hold is of the range in the word that the pass saw last, and the value is that range's, with a log no older than any that the pass knows, in which
+  -- each of the pass's receipts for the range stands once
   abbrev pub IsLocked : View E → ℕ → Claim → T → Type 0
   IsLocked v word c x = (c.first ≡ first_in word)
       × (c.size ≡ range_in word)
       × (first_id x ≡ first_id_of c)
       × HasAllLogs (part_of v c.slot).logs c.first (log x)
       × ((part_of v c.slot).hold ≡ None)
+      × HasReceipts rec v c.slot c.first (log x)
 
   -- the exchange found the free word, which gave the Hold and the value, or another
   abbrev pub IsLockedFrom : ℕ → ℕ → Standing E → TryLock T → Standing E → Type 0
@@ -128,6 +143,7 @@ module _ {T E : Type 0} (log : T → List E) (first_id : T → ℕ) where
       × ((words : List ℕ) × (q ≡ with_view p (view_after_loads p.view (words_of slot (words ++ word ∷ [])))))
   IsLockEnd slots id p lock.NoSlot q = HasNoSlot slots id × (q ≡ p)
 
+module _ {T E : Type 0} (log : T → List E) (first_id : T → ℕ) where
   -- the value is the range's last one, with a log no older than any that the pass knows
   abbrev pub IsLastValue : View E → Claim → T → Type 0
   IsLastValue v c x = (first_id x ≡ first_id_of c) × HasAllLogs (part_of v c.slot).logs c.first (log x)
@@ -174,8 +190,44 @@ HasSeenEnd slots id p = (slot : ℕ) × IsSlotOf slots id slot × (ids.version_o
 module _ {E : Type 0} (rec : E → Option Receipt) where
   -- the log begins with the log at the lock, and has each receipt that was handed out since, once
   abbrev pub HasGrown : Standing E → Claim → List E → Type 0
-  HasGrown p c log = (l : List E) → (part_of p.view c.slot).turn ≡ Some l → IsGrown rec l log (part_of p.view c.slot).got
+  HasGrown p c log = (t : Turn E) → (part_of p.view c.slot).turn ≡ Some t → IsGrown rec t.log log (part_of p.view c.slot).got
 
   -- the log begins with the log at the lock; these receipts, handed out since, are what it leaves out of them
   abbrev pub HasGrownWithout : Standing E → Claim → List E → List Receipt → Type 0
-  HasGrownWithout p c log out = (l : List E) → (part_of p.view c.slot).turn ≡ Some l → IsGrownWithout rec l log (part_of p.view c.slot).got out
+  HasGrownWithout p c log out = (t : Turn E) → (part_of p.view c.slot).turn ≡ Some t → IsGrownWithout rec t.log log (part_of p.view c.slot).got out
+
+  -- The log begins with the log at the lock, and its receipts since are some of those handed out since, each once. These are the others; the errors that
+  -- weren't handed out yet are none of them
+  abbrev pub HasLeftOut : Standing E → Claim → List E → List Receipt → Type 0
+  HasLeftOut p c log out = HasGrownWithout p c log (out ++ receipts_in_errors p.scratch)
+
+module _ {T E : Type 0} (log : T → List E) (rec : E → Option Receipt) where
+  -- `unlock`: the range is unlocked, or its word had a head, and the chain was taken
+  abbrev pub IsUnlocked : Claim → T → Standing E → UnlockEnd T → Standing E → Type 0
+  IsUnlocked c x p unlock.Unlocked q = q ≡ with_view p (view_without_hold p.view c (log x))
+  IsUnlocked c x p (unlock.Pending same y count) q = (same ≡ c)
+      × (y ≡ x)
+      × (1 ≤ count)
+      × (count ≡ length q.scratch)
+      × ((word : ℕ) × (head_in word ≢ 0)
+      × ((qs : List Queued)
+      × IsChainOf rec p.view c.slot c.size qs
+      × (q ≡ record p { view = view_after_pending p.view c word qs; scratch = reverse (errors_of qs); holder = Some c.slot })))
+
+  -- `destroy`: what the last log leaves out of the receipts since the lock is dropped, and so is the chain. The errors to hand out are those that weren't
+  -- yet, and then those of the chain
+  abbrev pub IsDestroyed : Claim → T → Standing E → Standing E → Type 0
+  IsDestroyed c x p q = (out : List Receipt)
+      × HasGrownWithout rec p c (log x) out
+      × ((qs : List Queued)
+      × IsChainOf rec p.view c.slot c.size qs
+      × (q ≡ record p {
+        view = view_after_destroy p.view c (log x) out qs;
+        scratch = p.scratch ++ reverse (errors_of qs);
+        holder = None;
+      }))
+
+-- the first of the errors still to hand out, if there is one
+abbrev pub HasNext : {E : Type 0} → Standing E → Option Posted → Standing E → Type 0
+HasNext p None q = (p.scratch ≡ []) × (q ≡ p)
+HasNext p (Some e) q = (es : List Posted) × (p.scratch ≡ e ∷ es) × (q ≡ record p { scratch = es })

@@ -1,6 +1,9 @@
 pub mod Answers
 pub mod Claims
+pub mod Draining
 pub mod Opening
+pub mod Picking
+pub mod Posts
 pub mod Standing
 pub mod Steady
 pub mod Views

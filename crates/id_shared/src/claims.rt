@@ -44,6 +44,17 @@ impl Model for Hold {
     ghost invariant = { λ c. IsClaim record { slot = c.slot; first = c.first; size = c.size } };
 }
 
+impl Hold {
+    // The range isn't locked any more.
+    pub(crate) fn spend(self) {
+        let Hold {
+            slot: _,
+            first: _,
+            size: _,
+        } = self;
+    }
+}
+
 /// A range whose last value will be collected. It has to be spent, by `collect` or `join`.
 pub struct Owner {
     pub(crate) slot: u32,

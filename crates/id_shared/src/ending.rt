@@ -1,55 +1,128 @@
-//! Destroying a range, and collecting its last value.
-ghost use Rattle.std.specs.Prelude.{◌≡◌, ◌<◌, ◌≤◌, ◌+◌, ◌^◌, List};
+//! Unlocking a range, destroying it, and collecting its last value.
+ghost use Rattle.std.specs.Prelude.{◌≡◌, ◌<◌, ◌≤◌, ◌+◌, ◌^◌, [], length, List};
 ghost use Rattle.id_rule.specs.declared.view.Receipt.{Receipt};
+ghost use Rattle.id_rule.specs.Accounts.{IsAccounted};
 ghost use Rattle.id_rule.specs.Words.{packed_word};
-ghost use Rattle.id_shared.specs.Answers.{HasGrownWithout, IsCollected};
-ghost use Rattle.id_shared.specs.Claims.{KeepsCollected, KeepsOthers, KeepsOwners};
-ghost use Rattle.id_shared.specs.Standing.{IsPassOf, HasHold, HasOwner, first_id_of};
-ghost use Rattle.id_shared.specs.Views.{with_view, view_after_destroy};
+ghost use Rattle.id_shared.specs.Answers.{HasGrown, HasLeftOut, IsCollected, IsDestroyed, IsUnlocked};
+ghost use Rattle.id_shared.specs.Claims.{KeepsCollected, KeepsErrors, KeepsHolding, KeepsOthers, KeepsOwners};
+ghost use Rattle.id_shared.specs.Standing.{IsPassOf, HasErrorsOf, HasHold, HasOwner, first_id_of};
 
-use crate::answers::CollectEnd;
+use crate::answers::{CollectEnd, UnlockEnd};
 use crate::claims::{Hold, Owner};
 use crate::ids::Ids;
 use crate::pass::Pass;
-use id_rule::{Empty, End, State, Take, Tenant, pack};
+use id_rule::{Empty, End, State, Take, Tenant, Unlock, pack};
 
 impl<T: Tenant> Ids<T> {
+    /// Unlocks a range, and puts its value home. The value's first id has to be the range's. Its log has to begin with
+    /// the log at the lock, and to have each receipt handed out since, once; the range's log is this log from then on. No
+    /// error may be left to hand out.
+    ///
+    /// `Pending` comes only where errors were queued: it took so many, at least one, and the range stays locked by the pass,
+    /// with its value as it was. `next_pending` hands these errors out, each of them queued to an id of the range since the
+    /// lock, the errors of one poster in its order.
+    pub fn unlock(&self, pass: &mut Pass<T>, hold: Hold, value: T) -> UnlockEnd<T>
+        requires own { IsPassOf self.now pass.old }
+        requires hold { HasHold pass.old hold }
+        requires errors { pass.old.scratch ≡ [] }
+        requires value { T.first_id value ≡ first_id_of hold }
+        requires log { HasGrown T.receipt pass.old hold (T.log value) }
+        ensures own { IsPassOf self.now pass.new }
+        ensures answer { IsUnlocked T.log T.receipt hold value pass.old result pass.new }
+        ensures still { KeepsHolding hold pass.old result pass.new }
+        ensures owners { KeepsOwners pass.old pass.new }
+        ensures others { KeepsOthers hold.slot pass.old pass.new }
+    {
+        self.unlock_once(pass, hold, value)
+    }
+
+    // Puts the value home, or takes the errors that wait.
+    fn unlock_once(&self, pass: &mut Pass<T>, hold: Hold, value: T) -> UnlockEnd<T>
+        requires own { IsPassOf self.now pass.old }
+        requires hold { HasHold pass.old hold }
+        requires errors { pass.old.scratch ≡ [] }
+        requires value { T.first_id value ≡ first_id_of hold }
+        requires log { HasGrown T.receipt pass.old hold (T.log value) }
+        ensures own { IsPassOf self.now pass.new }
+        ensures answer { IsUnlocked T.log T.receipt hold value pass.old result pass.new }
+    {
+        let slot = hold.slot;
+        self.put(&mut pass.seat, slot, value);
+        let old = pack(hold.first, hold.size, State::Locked, 0);
+        let new = pack(hold.first, hold.size, State::Free, 0);
+        let found = self
+            .table
+            .shared
+            .compare_exchange::<Unlock>(&mut pass.seat, slot as usize, old, new);
+        if found == old {
+            hold.spend();
+            return UnlockEnd::Unlocked;
+        }
+        self.take(&mut pass.seat, &mut pass.pending, &hold);
+        let value = self.take_out(&mut pass.seat, slot);
+        pass.holder = Some(slot);
+        let count = pass.pending.len() as u32;
+        UnlockEnd::Pending(hold, value, count)
+    }
+
     /// Destroys a range, and leaves its value for the owner. Answers how many errors are dropped that weren't handed out
-    /// before, which is 0 while no call queues an error.
+    /// before; `next_dropped` hands them out.
     ///
     /// The value's first id has to be the range's. Its log, which is the range's last one, has to begin with the log at
     /// the lock, and the receipts in the rest have to be among those handed out since, none twice. What it leaves out of
-    /// them is dropped by this pass.
+    /// them is dropped by this pass, and isn't handed out again. Errors that are left to hand out have to be this Hold's.
     pub fn destroy(&self, pass: &mut Pass<T>, hold: Hold, value: T) -> u32
         requires own { IsPassOf self.now pass.old }
         requires hold { HasHold pass.old hold }
+        requires errors { HasErrorsOf pass.old hold }
         requires value { T.first_id value ≡ first_id_of hold }
-        requires log { (out : List Receipt) × HasGrownWithout T.receipt pass.old hold (T.log value) out }
+        requires log { (out : List Receipt) × HasLeftOut T.receipt pass.old hold (T.log value) out }
         ensures own { IsPassOf self.now pass.new }
-        ensures none { result ≡ 0 }
-        ensures view { (out : List Receipt) × HasGrownWithout T.receipt pass.old hold (T.log value) out × (pass.new ≡ with_view pass.old (view_after_destroy pass.old.view hold (T.log value) out)) }
+        ensures count { result ≡ length pass.new.scratch }
+        ensures answer { IsDestroyed T.log T.receipt hold value pass.old pass.new }
         ensures owners { KeepsOwners pass.old pass.new }
         ensures others { KeepsOthers hold.slot pass.old pass.new }
+    {
+        self.destroy_once(pass, hold, value)
+    }
+
+    // Puts the value home, and takes the errors that wait.
+    fn destroy_once(&self, pass: &mut Pass<T>, hold: Hold, value: T) -> u32
+        requires own { IsPassOf self.now pass.old }
+        requires hold { HasHold pass.old hold }
+        requires errors { HasErrorsOf pass.old hold }
+        requires value { T.first_id value ≡ first_id_of hold }
+        requires log { (out : List Receipt) × HasLeftOut T.receipt pass.old hold (T.log value) out }
+        ensures own { IsPassOf self.now pass.new }
+        ensures count { result ≡ length pass.new.scratch }
+        ensures answer { IsDestroyed T.log T.receipt hold value pass.old pass.new }
     {
         let Hold { slot, first, size } = hold;
         self.put(&mut pass.seat, slot, value);
         let new = pack(first, size, State::Ended, 0);
-        self.table
+        let taken = self
+            .table
             .shared
             .swap::<End>(&mut pass.seat, slot as usize, new);
-        0
+        self.drain(&mut pass.seat, &mut pass.dropped, (taken % 65536) as u32);
+        pass.holder = None;
+        (pass.pending.len() + pass.dropped.len()) as u32
     }
 
     /// Collects the value that the end of the range left. The slot is then vacant for the next range, or retired where
     /// its versions come near their end.
     ///
-    /// `NotYet` comes only where the word loaded in this call isn't this range's ended word; the owner comes back.
+    /// `NotYet` comes only where the word loaded in this call isn't this range's ended word; the owner comes back. A pass that
+    /// destroyed a range and collected it, or into which the one that destroyed it was joined, knows that its receipts for it
+    /// are, each once, those in the collected log and those that were dropped.
     pub fn collect(&self, pass: &mut Pass<T>, owner: Owner) -> CollectEnd<T>
         requires own { IsPassOf self.now pass.old }
         requires owner { HasOwner pass.old owner }
         ensures own { IsPassOf self.now pass.new }
         ensures answer { IsCollected T.log T.first_id owner pass.old result pass.new }
+        ensures accounted { IsAccounted T.receipt pass.new.view }
         ensures claims { KeepsCollected owner pass.old result pass.new }
+        ensures errors { KeepsErrors pass.old pass.new }
     {
         self.collect_once(pass, owner)
     }
@@ -60,6 +133,7 @@ impl<T: Tenant> Ids<T> {
         requires owner { HasOwner pass.old owner }
         ensures own { IsPassOf self.now pass.new }
         ensures answer { IsCollected T.log T.first_id owner pass.old result pass.new }
+        ensures accounted { IsAccounted T.receipt pass.new.view }
     {
         let slot = owner.slot;
         let first = owner.first;

@@ -11,18 +11,23 @@ mod claims;
 mod ending;
 pub mod halves;
 mod ids;
+mod joining;
 mod locking;
 mod opening;
 mod pass;
+mod posting;
 mod reserving;
+mod taking;
 mod waiting;
 
-pub use answers::{CollectEnd, LockEnd, Reserve, TryLock, UnlockEnd};
+pub use answers::{CollectEnd, LockEnd, PostEnd, Posted, Reserve, TryLock, TryPost, UnlockEnd};
 pub use claims::{Hold, Owner, Spot};
 pub use id_rule::{Receipt, Tenant};
 pub use ids::Ids;
 pub use pass::Pass;
 
+#[cfg(test)]
+mod post_tests;
 #[cfg(test)]
 mod race_tests;
 #[cfg(test)]

@@ -1,23 +1,22 @@
-//! Beginning a range, locking it and unlocking it.
-ghost use Rattle.std.specs.Prelude.{◌≡◌, ◌<◌, ◌^◌, ◌∷◌, [], None, Some};
+//! Beginning a range and locking it.
+ghost use Rattle.std.specs.Prelude.{◌≡◌, ◌<◌, ◌^◌, ◌∷◌, ℕ, false, [], None, Some};
+ghost use Rattle.atomic_table.specs.Table.{rest};
 ghost use Rattle.rpc_model.specs.Gone.{code_in};
-ghost use Rattle.id_rule.specs.Carried.{IsOut, AreHeld, without};
+ghost use Rattle.id_rule.specs.Parts.{part_of};
 ghost use Rattle.id_rule.specs.Receipts.{receipts_in};
-ghost use Rattle.id_shared.specs.Answers.{IsLockedFrom, IsTried, IsGone, HasSeenEnd, HasGrown};
-ghost use Rattle.id_shared.specs.Claims.{HasTried, IsHolding, KeepsClaims, KeepsOthers, KeepsOwners};
+ghost use Rattle.id_rule.specs.declared.view.Turn.{Turn};
+ghost use Rattle.id_shared.specs.Answers.{IsLockedFrom, IsTried, IsGone, HasSeenEnd};
+ghost use Rattle.id_shared.specs.Claims.{HasTried, IsHolding, KeepsClaims, KeepsErrors, KeepsOthers};
 ghost use Rattle.id_shared.specs.Standing.{IsPassOf, HasSpot, HasHold, HasOwner, first_id_of};
-ghost use Rattle.id_shared.specs.declared.answers.UnlockEnd.TheVariants.{Unlocked};
-ghost use Rattle.id_shared.specs.Views.{with_view, view_with_range, view_without_hold};
+ghost use Rattle.id_shared.specs.Views.{with_view, view_with_range, view_lifted, view_laid};
 
-use crate::answers::{TryLock, UnlockEnd};
+use crate::answers::TryLock;
 use crate::claims::{Hold, Owner, Spot};
 use crate::ids::Ids;
 use crate::pass::Pass;
 use atomic_table::Seat;
 use id_pool::{slot_of, version_of};
-use id_rule::{
-    Front, Install, Lock, State, Tenant, Unlock, View, is_live, is_locked, pack, unpack,
-};
+use id_rule::{Install, Lay, Lift, Lock, State, Tenant, View, is_live, is_locked, pack, unpack};
 
 impl<T: Tenant> Ids<T> {
     /// Begins the range of a spot, locked, and hands the value back for the `unlock` or `destroy` that follows. The
@@ -53,7 +52,7 @@ impl<T: Tenant> Ids<T> {
         requires slot { slot < self.now.sizes.slots }
         requires word { (word < 2 ^ 62) × (code_in word ≡ 2) }
         ensures own { IsPassOf self.now pass.new }
-        ensures answer { IsLockedFrom T.log T.first_id slot word pass.old result pass.new }
+        ensures answer { IsLockedFrom T.log T.first_id T.receipt slot word pass.old result pass.new }
     {
         let parts = unpack(word);
         let new = pack(parts.first, parts.range, State::Locked, 0);
@@ -64,31 +63,30 @@ impl<T: Tenant> Ids<T> {
         if found != word {
             return TryLock::Again(word, found);
         }
-        let item = self
-            .table
-            .shared
-            .exchange(&mut pass.seat, slot as usize, None);
+        let value = self.take_out(&mut pass.seat, slot);
         let hold = Hold {
             slot,
             first: parts.first,
             size: parts.range,
         };
-        TryLock::Locked(hold, item.unwrap())
+        TryLock::Locked(hold, value)
     }
 
     /// Locks the range that has the id, if it is free.
     ///
-    /// `Locked` gives the value of the very range, whose log begins with every log of that range that this pass knows.
+    /// `Locked` gives the value of the very range, whose log begins with every log of that range that this pass knows, and
+    /// has each receipt that the pass was given for the range, once.
     /// `Held` and `Gone` come only where the word loaded in this call shows it, `NoSlot` exactly where the id names no
     /// slot of this table, and `Again` exactly where the exchange found another word than the free one. After each of
     /// these the pass has what it had. Once a pass has seen a range end, each of its ids is `Gone` for it.
     pub fn try_lock(&self, pass: &mut Pass<T>, id: u64) -> TryLock<T>
         requires own { IsPassOf self.now pass.old }
         ensures own { IsPassOf self.now pass.new }
-        ensures answer { IsTried T.log T.first_id self.now.sizes.slots id pass.old result pass.new }
+        ensures answer { IsTried T.log T.first_id T.receipt self.now.sizes.slots id pass.old result pass.new }
         ensures stays_gone { HasSeenEnd self.now.sizes.slots id pass.old → IsGone result }
         ensures holding { HasTried T.log pass.new result }
         ensures claims { KeepsClaims pass.old pass.new }
+        ensures errors { KeepsErrors pass.old pass.new }
     {
         self.try_once(pass, id)
     }
@@ -97,7 +95,7 @@ impl<T: Tenant> Ids<T> {
     fn try_once(&self, pass: &mut Pass<T>, id: u64) -> TryLock<T>
         requires own { IsPassOf self.now pass.old }
         ensures own { IsPassOf self.now pass.new }
-        ensures answer { IsTried T.log T.first_id self.now.sizes.slots id pass.old result pass.new }
+        ensures answer { IsTried T.log T.first_id T.receipt self.now.sizes.slots id pass.old result pass.new }
         ensures stays_gone { HasSeenEnd self.now.sizes.slots id pass.old → IsGone result }
     {
         let Some(slot) = slot_of(id) else {
@@ -116,42 +114,34 @@ impl<T: Tenant> Ids<T> {
         self.lock_from(pass, slot, word)
     }
 
-    // Puts a value into a slot that the seat took, which comes to the front.
+    // Takes a held slot again, and puts a value into it.
     pub(crate) fn put(&self, seat: &mut Seat<Option<T>, View<T::Entry>>, slot: u32, value: T)
         requires table { seat.old.table_id ≡ self.now.table }
         requires slot { slot < seat.old.table_id.slots }
-        requires out { IsOut slot None seat.old.me.1 }
-        requires held { AreHeld seat.old.table_id.slots seat.old.me.0 seat.old.me.1 }
+        requires hold { (f r : ℕ) × ((part_of seat.old.me.0 slot).hold ≡ Some (f, r)) }
+        requires home { (t : Turn T.Entry) → (part_of seat.old.me.0 slot).turn ≡ Some t → t.out ≡ false }
         ensures same { (seat.new.table_id ≡ seat.old.table_id) × (seat.new.id ≡ seat.old.id) }
-        ensures me { seat.new.me ≡ (seat.old.me.0, (slot, Some value) ∷ without slot seat.old.me.1) }
+        ensures me { seat.new.me ≡ (view_lifted seat.old.me.0 slot, (slot, Some value) ∷ seat.old.me.1) }
     {
-        self.table.shared.load::<Front>(seat, slot as usize);
+        self.table.shared.load::<Lift>(seat, slot as usize);
         match self.table.shared.exchange(seat, slot as usize, Some(value)) {
             None => {}
             Some(_) => unreachable!(),
         }
     }
 
-    /// Unlocks a range, and puts its value home. The value's first id has to be the range's. Its log has to begin with
-    /// the log at the lock, and to have each receipt handed out since, once; the range's log is this log from then on.
-    pub fn unlock(&self, pass: &mut Pass<T>, hold: Hold, value: T) -> UnlockEnd<T>
-        requires own { IsPassOf self.now pass.old }
-        requires hold { HasHold pass.old hold }
-        requires value { T.first_id value ≡ first_id_of hold }
-        requires log { HasGrown T.receipt pass.old hold (T.log value) }
-        ensures own { IsPassOf self.now pass.new }
-        ensures unlocked { result ≡ Unlocked }
-        ensures view { pass.new ≡ with_view pass.old (view_without_hold pass.old.view hold (T.log value)) }
-        ensures owners { KeepsOwners pass.old pass.new }
-        ensures others { KeepsOthers hold.slot pass.old pass.new }
+    // Takes the value out of the slot that the seat took last, and gives the slot back, empty.
+    pub(crate) fn take_out(&self, seat: &mut Seat<Option<T>, View<T::Entry>>, slot: u32) -> T
+        requires table { seat.old.table_id ≡ self.now.table }
+        requires slot { slot < seat.old.table_id.slots }
+        requires hold { (f r : ℕ) × ((part_of seat.old.me.0 slot).hold ≡ Some (f, r)) }
+        requires value { (x : T) × (seat.old.me.1 ≡ (slot, Some x) ∷ rest seat.old.me.1) }
+        ensures same { (seat.new.table_id ≡ seat.old.table_id) × (seat.new.id ≡ seat.old.id) }
+        ensures value { seat.old.me.1 ≡ (slot, Some result) ∷ rest seat.old.me.1 }
+        ensures me { seat.new.me ≡ (view_laid seat.old.me.0 slot, rest seat.old.me.1) }
     {
-        let Hold { slot, first, size } = hold;
-        self.put(&mut pass.seat, slot, value);
-        let old = pack(first, size, State::Locked, 0);
-        let new = pack(first, size, State::Free, 0);
-        self.table
-            .shared
-            .compare_exchange::<Unlock>(&mut pass.seat, slot as usize, old, new);
-        UnlockEnd::Unlocked
+        let item = self.table.shared.exchange(seat, slot as usize, None);
+        self.table.shared.load::<Lay>(seat, slot as usize);
+        item.unwrap()
     }
 }

@@ -1,7 +1,7 @@
 //! Races of two passes, stepped by hand.
 ghost use Rattle.std.specs.Prelude.{◌≡◌, ◌<◌, ◌^◌};
 ghost use Rattle.rpc_model.specs.Gone.{code_in};
-ghost use Rattle.id_shared.specs.Standing.{IsPassOf};
+ghost use Rattle.id_shared.specs.Standing.{IsAtRest};
 
 use crate::tests::{
     FIRST, Tally, Told, add, begun, next, reserved, tells_destroy, tells_lock, tells_reserve,
@@ -31,8 +31,8 @@ enum Between {
 
 // The whole life of a range of five ids, in the hands of one pass.
 fn live<R: Wait>(rt: &R, ids: &Ids<Tally>, pass: &mut Pass<Tally>)
-    requires own { IsPassOf ids.now pass.old }
-    ensures own { IsPassOf ids.now pass.new }
+    requires own { IsAtRest ids.now pass.old }
+    ensures own { IsAtRest ids.now pass.new }
 {
     if let Some(owner) = begun(ids, pass, 5) {
         tells_destroy(ids, pass, FIRST);
@@ -42,10 +42,10 @@ fn live<R: Wait>(rt: &R, ids: &Ids<Tally>, pass: &mut Pass<Tally>)
 
 // The rest of `reserve` in the first slot.
 fn tells_reserve_from(ids: &Ids<Tally>, pass: &mut Pass<Tally>, word: u64) -> Told
-    requires own { IsPassOf ids.now pass.old }
+    requires own { IsAtRest ids.now pass.old }
     requires slot { 0 < ids.now.sizes.slots }
     requires word { (word < 2 ^ 62) × (code_in word ≡ 0) }
-    ensures own { IsPassOf ids.now pass.new }
+    ensures own { IsAtRest ids.now pass.new }
 {
     match halves::reserve_from(ids, pass, 0, word, 3) {
         Reserve::Spot(spot) => {
@@ -67,7 +67,7 @@ fn reserve_races<R: Wait>(
     b: &mut Pass<Tally>,
     between: Between,
 ) -> Option<Told>
-    requires own { IsPassOf ids.now a.old × IsPassOf ids.now b.old }
+    requires own { IsAtRest ids.now a.old × IsAtRest ids.now b.old }
     requires slot { 0 < ids.now.sizes.slots }
 {
     let word = halves::load(ids, a, 0);
@@ -92,10 +92,10 @@ fn reserve_races<R: Wait>(
 
 // The rest of `try_lock` in the first slot.
 fn tells_lock_from(ids: &Ids<Tally>, pass: &mut Pass<Tally>, word: u64) -> Told
-    requires own { IsPassOf ids.now pass.old }
+    requires own { IsAtRest ids.now pass.old }
     requires slot { 0 < ids.now.sizes.slots }
     requires word { (word < 2 ^ 62) × (code_in word ≡ 2) }
-    ensures own { IsPassOf ids.now pass.new }
+    ensures own { IsAtRest ids.now pass.new }
 {
     match halves::lock_from(ids, pass, 0, word) {
         TryLock::Locked(hold, tally) => Told::Locked(add(ids, pass, hold, tally)),
@@ -113,9 +113,9 @@ fn lock_races(
     b: &mut Pass<Tally>,
     between: Between,
 ) -> Option<Told>
-    requires own { IsPassOf ids.now a.old × IsPassOf ids.now b.old }
+    requires own { IsAtRest ids.now a.old × IsAtRest ids.now b.old }
     requires slot { 0 < ids.now.sizes.slots }
-    ensures own { IsPassOf ids.now a.new × IsPassOf ids.now b.new }
+    ensures own { IsAtRest ids.now a.new × IsAtRest ids.now b.new }
 {
     let word = halves::load(ids, a, 0);
     if !is_live(word, 1) {

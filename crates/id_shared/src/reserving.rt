@@ -1,9 +1,10 @@
 //! Loading words, reserving a slot and giving it up.
 ghost use Rattle.std.specs.Prelude.{◌≡◌, ◌<◌, ◌≤◌, ◌^◌, ◌++◌, ◌∷◌, [], ℕ, length, true};
 ghost use Rattle.rpc_model.specs.Gone.{code_in, is_live_in};
+ghost use Rattle.id_rule.specs.Accounts.{IsAccounted};
 ghost use Rattle.id_rule.specs.Changes.{view_after_load};
 ghost use Rattle.id_rule.specs.Parts.{part_of};
-ghost use Rattle.id_shared.specs.Claims.{HasReserved, KeepsClaims, KeepsOthers};
+ghost use Rattle.id_shared.specs.Claims.{HasReserved, KeepsClaims, KeepsErrors, KeepsOthers};
 ghost use Rattle.id_shared.specs.Standing.{IsPassOf, HasSpot};
 ghost use Rattle.id_shared.specs.Views.{with_view, view_without_spot};
 ghost use Rattle.id_shared.specs.Answers.{IsSize, IsReservedFrom, IsReserved};
@@ -23,6 +24,7 @@ impl<T: Tenant> Ids<T> {
         ensures view { pass.new ≡ with_view pass.old (view_after_load pass.old.view slot result) }
         ensures small { result < 2 ^ 62 }
         ensures ended { (version : ℕ) → is_live_in result version ≡ true → (part_of pass.old.view slot).ended_below ≤ version }
+        ensures accounted { IsAccounted T.receipt pass.new.view }
     {
         self.table
             .shared
@@ -37,6 +39,7 @@ impl<T: Tenant> Ids<T> {
         ensures own { IsPassOf self.now pass.new }
         ensures view { pass.new.view ≡ view_after_load pass.old.view slot result }
         ensures words { pass.new.words ≡ pass.old.words ++ result ∷ [] }
+        ensures errors { KeepsErrors pass.old pass.new }
         ensures small { result < 2 ^ 62 }
     {
         let word = self.load(pass, slot);
@@ -105,6 +108,7 @@ impl<T: Tenant> Ids<T> {
         ensures answer { IsReserved self.now.sizes.slots range pass.old result pass.new }
         ensures spot { HasReserved pass.new result }
         ensures claims { KeepsClaims pass.old pass.new }
+        ensures errors { KeepsErrors pass.old pass.new }
     {
         self.reserve_first(pass, range)
     }
@@ -114,6 +118,7 @@ impl<T: Tenant> Ids<T> {
         requires own { IsPassOf self.now pass.old }
         ensures own { IsPassOf self.now pass.new }
         ensures answer { IsReserved self.now.sizes.slots range pass.old result pass.new }
+        ensures errors { KeepsErrors pass.old pass.new }
     {
         if range < 1 || range > 1024 {
             return Reserve::BadRange;

@@ -1,7 +1,7 @@
 //! The answers in a table of stages, and helpers for the other tests.
 ghost use Rattle.std.specs.Prelude.{◌≡◌, ◌<◌, [], List, ℕ, All, IfSome, vec_len};
 ghost use Rattle.id_shared.specs.Claims.{KeepsOwners, IsHolding};
-ghost use Rattle.id_shared.specs.Standing.{IsPassOf, HasSpot, HasOwner, first_id_of};
+ghost use Rattle.id_shared.specs.Standing.{IsAtRest, IsPassOf, HasDropped, HasSpot, HasOwner, first_id_of};
 
 use crate::ending::next_word;
 use crate::{CollectEnd, Hold, Ids, Owner, Pass, Reserve, Spot, TryLock, UnlockEnd};
@@ -48,19 +48,19 @@ pub(crate) enum Told {
 }
 
 // The last of the passes.
-pub(crate) fn next(ids: &Ids<Tally>, passes: &mut Vec<Pass<Tally>>) -> Option<Pass<Tally>>
-    requires own { All (IsPassOf ids.now) passes.old.items }
-    ensures own { All (IsPassOf ids.now) passes.new.items }
+pub(crate) fn next<T: Tenant>(ids: &Ids<T>, passes: &mut Vec<Pass<T>>) -> Option<Pass<T>>
+    requires own { All (IsAtRest ids.now) passes.old.items }
+    ensures own { All (IsAtRest ids.now) passes.new.items }
     ensures fewer { IfSome result (λ _. vec_len passes.new < vec_len passes.old) }
-    ensures pass { IfSome result (IsPassOf ids.now) }
+    ensures pass { IfSome result (IsAtRest ids.now) }
 {
     passes.pop()
 }
 
 // Reserves, and gives up what was reserved.
 pub(crate) fn tells_reserve(ids: &Ids<Tally>, pass: &mut Pass<Tally>, range: u32) -> Told
-    requires own { IsPassOf ids.now pass.old }
-    ensures own { IsPassOf ids.now pass.new }
+    requires own { IsAtRest ids.now pass.old }
+    ensures own { IsAtRest ids.now pass.new }
 {
     match ids.reserve(pass, range) {
         Reserve::Spot(spot) => {
@@ -74,26 +74,40 @@ pub(crate) fn tells_reserve(ids: &Ids<Tally>, pass: &mut Pass<Tally>, range: u32
     }
 }
 
+// Takes all dropped errors.
+pub(crate) fn forgets<T: Tenant>(ids: &Ids<T>, pass: &mut Pass<T>)
+    requires own { IsPassOf ids.now pass.old }
+    requires dropped { HasDropped pass.old }
+    ensures own { IsAtRest ids.now pass.new }
+    ensures same { pass.new.view ≡ pass.old.view }
+{
+    while let Some(_) = ids.next_dropped(pass) {}
+}
+
 // Adds one to the tally, and unlocks it. Tells the tally as it was.
 pub(crate) fn add(ids: &Ids<Tally>, pass: &mut Pass<Tally>, hold: Hold, mut tally: Tally) -> u64
-    requires own { IsPassOf ids.now pass.old }
+    requires own { IsAtRest ids.now pass.old }
     requires holding { IsHolding pass.old hold [] }
     requires first { tally.first ≡ first_id_of hold }
-    ensures own { IsPassOf ids.now pass.new }
+    ensures own { IsAtRest ids.now pass.new }
     ensures owners { KeepsOwners pass.old pass.new }
 {
     let count = tally.count;
     tally.count = count.wrapping_add(1);
     match ids.unlock(pass, hold, tally) {
-        UnlockEnd::Unlocked => count,
-        _ => unreachable!(),
+        UnlockEnd::Unlocked => {}
+        UnlockEnd::Pending(hold, tally, _) => {
+            ids.destroy(pass, hold, tally);
+            forgets(ids, pass);
+        }
     }
+    count
 }
 
 // Locks, adds one, and unlocks.
 pub(crate) fn tells_lock(ids: &Ids<Tally>, pass: &mut Pass<Tally>, id: u64) -> Told
-    requires own { IsPassOf ids.now pass.old }
-    ensures own { IsPassOf ids.now pass.new }
+    requires own { IsAtRest ids.now pass.old }
+    ensures own { IsAtRest ids.now pass.new }
     ensures owners { KeepsOwners pass.old pass.new }
 {
     match ids.try_lock(pass, id) {
@@ -107,8 +121,8 @@ pub(crate) fn tells_lock(ids: &Ids<Tally>, pass: &mut Pass<Tally>, id: u64) -> T
 
 // Reserves a range, and keeps the Spot.
 pub(crate) fn reserved(ids: &Ids<Tally>, pass: &mut Pass<Tally>, range: u32) -> Option<Spot>
-    requires own { IsPassOf ids.now pass.old }
-    ensures own { IsPassOf ids.now pass.new }
+    requires own { IsAtRest ids.now pass.old }
+    ensures own { IsAtRest ids.now pass.new }
     ensures spot { IfSome result (λ c. HasSpot pass.new c) }
 {
     match ids.reserve(pass, range) {
@@ -121,8 +135,8 @@ pub(crate) fn reserved(ids: &Ids<Tally>, pass: &mut Pass<Tally>, range: u32) -> 
 
 // Begins a range, and unlocks it.
 pub(crate) fn begun(ids: &Ids<Tally>, pass: &mut Pass<Tally>, range: u32) -> Option<Owner>
-    requires own { IsPassOf ids.now pass.old }
-    ensures own { IsPassOf ids.now pass.new }
+    requires own { IsAtRest ids.now pass.old }
+    ensures own { IsAtRest ids.now pass.new }
     ensures owner { IfSome result (λ c. HasOwner pass.new c) }
 {
     let spot = reserved(ids, pass, range)?;
@@ -134,19 +148,21 @@ pub(crate) fn begun(ids: &Ids<Tally>, pass: &mut Pass<Tally>, range: u32) -> Opt
 
 // Destroys a held range.
 pub(crate) fn destroys(ids: &Ids<Tally>, pass: &mut Pass<Tally>, hold: Hold, tally: Tally) -> u32
-    requires own { IsPassOf ids.now pass.old }
+    requires own { IsAtRest ids.now pass.old }
     requires holding { IsHolding pass.old hold [] }
     requires first { tally.first ≡ first_id_of hold }
-    ensures own { IsPassOf ids.now pass.new }
+    ensures own { IsAtRest ids.now pass.new }
     ensures owners { KeepsOwners pass.old pass.new }
 {
-    ids.destroy(pass, hold, tally)
+    let count = ids.destroy(pass, hold, tally);
+    forgets(ids, pass);
+    count
 }
 
 // Locks the range and destroys it.
 pub(crate) fn tells_destroy(ids: &Ids<Tally>, pass: &mut Pass<Tally>, id: u64) -> Told
-    requires own { IsPassOf ids.now pass.old }
-    ensures own { IsPassOf ids.now pass.new }
+    requires own { IsAtRest ids.now pass.old }
+    ensures own { IsAtRest ids.now pass.new }
     ensures owners { KeepsOwners pass.old pass.new }
 {
     match ids.try_lock(pass, id) {
@@ -167,8 +183,8 @@ enum Probe {
 
 // Each call gives the answer that is wanted.
 fn check(rt: &impl Abort, ids: &Ids<Tally>, pass: &mut Pass<Tally>, rows: &[(Probe, Told)])
-    requires own { IsPassOf ids.now pass.old }
-    ensures own { IsPassOf ids.now pass.new }
+    requires own { IsAtRest ids.now pass.old }
+    ensures own { IsAtRest ids.now pass.new }
 {
     for (call, wanted) in rows {
         let told = match *call {
@@ -183,9 +199,9 @@ pub(crate) const FIRST: u64 = 4294967297;
 
 // What another pass is answered while a range of two ids is begun, unlocked, destroyed and collected.
 fn lives(rt: &impl Abort, ids: &Ids<Tally>, a: &mut Pass<Tally>, b: &mut Pass<Tally>, spot: Spot)
-    requires own { IsPassOf ids.now a.old × IsPassOf ids.now b.old }
+    requires own { IsAtRest ids.now a.old × IsAtRest ids.now b.old }
     requires spot { HasSpot a.old spot }
-    ensures own { IsPassOf ids.now a.new × IsPassOf ids.now b.new }
+    ensures own { IsAtRest ids.now a.new × IsAtRest ids.now b.new }
 {
     assert_eq!(rt; spot.first_id(), FIRST);
     check(

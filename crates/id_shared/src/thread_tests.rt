@@ -1,7 +1,7 @@
 //! Four threads on one table.
 ghost use Rattle.std.specs.Prelude.{◌≡◌, ◌<◌, All};
 ghost use Rattle.id_shared.specs.Claims.{KeepsOwners};
-ghost use Rattle.id_shared.specs.Standing.{IsPassOf, HasOwner};
+ghost use Rattle.id_shared.specs.Standing.{IsAtRest, HasOwner};
 
 use crate::tests::{Tally, Told, begun, destroys, next, tells_lock};
 use crate::{Ids, LockEnd, Owner, Pass, halves};
@@ -29,8 +29,8 @@ struct Sums {
 
 // Begins a range of a size, with the first change of its tally, as soon as a slot is vacant.
 fn begins<R: Wait>(rt: &R, ids: &Ids<Tally>, mut pass: Pass<Tally>, range: u32) -> Desk
-    requires own { IsPassOf ids.now pass }
-    ensures own { IsPassOf ids.now result.pass }
+    requires own { IsAtRest ids.now pass }
+    ensures own { IsAtRest ids.now result.pass }
 {
     for _ in rt.forever() {
         if let Some(owner) = begun(ids, &mut pass, range) {
@@ -43,8 +43,8 @@ fn begins<R: Wait>(rt: &R, ids: &Ids<Tally>, mut pass: Pass<Tally>, range: u32) 
 
 // Waits for the Hold of the range, and destroys it.
 fn destroys_at_last<R: Wait>(rt: &R, ids: &Ids<Tally>, pass: &mut Pass<Tally>, id: u64)
-    requires own { IsPassOf ids.now pass.old }
-    ensures own { IsPassOf ids.now pass.new }
+    requires own { IsAtRest ids.now pass.old }
+    ensures own { IsAtRest ids.now pass.new }
     ensures owners { KeepsOwners pass.old pass.new }
 {
     match ids.lock(rt, pass, id) {
@@ -58,8 +58,8 @@ fn destroys_at_last<R: Wait>(rt: &R, ids: &Ids<Tally>, pass: &mut Pass<Tally>, i
 
 // Destroys the desk's range and collects its tally.
 fn ends<R: Wait>(rt: &R, ids: &Ids<Tally>, desk: Desk) -> (Pass<Tally>, u64)
-    requires own { IsPassOf ids.now desk.pass }
-    ensures own { IsPassOf ids.now result.0 }
+    requires own { IsAtRest ids.now desk.pass }
+    ensures own { IsAtRest ids.now result.0 }
 {
     let Desk { mut pass, owner } = desk;
     destroys_at_last(rt, ids, &mut pass, owner.first_id());
@@ -71,9 +71,9 @@ const SLOTS: u32 = 64;
 
 // Tries to change the tally of the range that is in the slot now. Answers 1 where it did, else 0.
 fn changes(ids: &Ids<Tally>, pass: &mut Pass<Tally>, slot: u32) -> u64
-    requires own { IsPassOf ids.now pass.old }
+    requires own { IsAtRest ids.now pass.old }
     requires slot { (slot < ids.now.sizes.slots) × (slot < 64) }
-    ensures own { IsPassOf ids.now pass.new }
+    ensures own { IsAtRest ids.now pass.new }
     ensures owners { KeepsOwners pass.old pass.new }
 {
     let first = unpack(halves::load(ids, pass, slot)).first;
@@ -85,9 +85,9 @@ fn changes(ids: &Ids<Tally>, pass: &mut Pass<Tally>, slot: u32) -> u64
 
 // Changes the tally of the range in a slot, from this desk.
 fn strolls(ids: &Ids<Tally>, desk: Desk, slot: u32) -> (Desk, u64)
-    requires own { IsPassOf ids.now desk.pass }
+    requires own { IsAtRest ids.now desk.pass }
     requires slot { (slot < ids.now.sizes.slots) × (slot < 64) }
-    ensures own { IsPassOf ids.now result.0.pass }
+    ensures own { IsAtRest ids.now result.0.pass }
 {
     let Desk { mut pass, owner } = desk;
     let changed = changes(ids, &mut pass, slot);
@@ -96,9 +96,9 @@ fn strolls(ids: &Ids<Tally>, desk: Desk, slot: u32) -> (Desk, u64)
 
 // Changes tallies all over the table a hundred times. Answers how many it changed.
 fn travels(ids: &Ids<Tally>, desk: Desk, seed: u32) -> (Desk, u64)
-    requires own { IsPassOf ids.now desk.pass }
+    requires own { IsAtRest ids.now desk.pass }
     requires slots { ids.now.sizes.slots ≡ 64 }
-    ensures own { IsPassOf ids.now result.0.pass }
+    ensures own { IsAtRest ids.now result.0.pass }
 {
     let mut now = desk;
     let mut place = seed;
@@ -114,7 +114,7 @@ fn travels(ids: &Ids<Tally>, desk: Desk, seed: u32) -> (Desk, u64)
 
 // Travels, ends its own range and begins the next one, again and again; at last it ends.
 fn works<R: Wait>(rt: &R, ids: &Ids<Tally>, desk: Desk, seed: u32) -> Sums
-    requires own { IsPassOf ids.now desk.pass }
+    requires own { IsAtRest ids.now desk.pass }
     requires slots { ids.now.sizes.slots ≡ 64 }
 {
     let mut now = desk;
@@ -158,8 +158,8 @@ fn opens<R: Wait>(
     alloc: Global,
     mut passes: Vec<Pass<Tally>>,
 ) -> Vec<Desk>
-    requires own { All (IsPassOf ids.now) passes.items }
-    ensures own { All (λ d. IsPassOf ids.now d.pass) result.items }
+    requires own { All (IsAtRest ids.now) passes.items }
+    ensures own { All (λ d. IsAtRest ids.now d.pass) result.items }
 {
     let mut desks = Vec::new(alloc);
     while let Some(pass) = next(ids, &mut passes) {
@@ -175,7 +175,7 @@ fn opens<R: Wait>(
 
 // All desks work, one after the other, while those that wait have their ranges too.
 fn all_work<R: Wait>(rt: &R, ids: &Ids<Tally>, alloc: Global, passes: Vec<Pass<Tally>>) -> Sums
-    requires own { All (IsPassOf ids.now) passes.items }
+    requires own { All (IsAtRest ids.now) passes.items }
     requires slots { ids.now.sizes.slots ≡ 64 }
 {
     let mut desks = opens(rt, ids, alloc, passes);
@@ -199,8 +199,8 @@ fn share(
     passes: &mut Vec<Pass<Tally>>,
     count: u32,
 ) -> Vec<Pass<Tally>>
-    requires own { All (IsPassOf ids.now) passes.old.items }
-    ensures own { All (IsPassOf ids.now) passes.new.items × All (IsPassOf ids.now) result.items }
+    requires own { All (IsAtRest ids.now) passes.old.items }
+    ensures own { All (IsAtRest ids.now) passes.new.items × All (IsAtRest ids.now) result.items }
 {
     let mut some = Vec::new(alloc);
     for _ in 0..count {
@@ -219,16 +219,16 @@ fn two<R: Threads + Wait + Sync>(
     a: Vec<Pass<Tally>>,
     b: Vec<Pass<Tally>>,
 ) -> Sums
-    requires own { All (IsPassOf ids.now) a.items × All (IsPassOf ids.now) b.items }
+    requires own { All (IsAtRest ids.now) a.items × All (IsAtRest ids.now) b.items }
     requires slots { ids.now.sizes.slots ≡ 64 }
 {
     let (a, b) = thread::join(
         rt,
         move || -> Sums
-            requires { All (IsPassOf ids.now) a.items × (ids.now.sizes.slots ≡ 64) }
+            requires { All (IsAtRest ids.now) a.items × (ids.now.sizes.slots ≡ 64) }
         { all_work(rt, ids, alloc, a) },
         move || -> Sums
-            requires { All (IsPassOf ids.now) b.items × (ids.now.sizes.slots ≡ 64) }
+            requires { All (IsAtRest ids.now) b.items × (ids.now.sizes.slots ≡ 64) }
         { all_work(rt, ids, alloc, b) },
     );
     both(a, b)
@@ -241,7 +241,7 @@ fn four<R: Threads + Wait + Sync>(
     alloc: Global,
     mut passes: Vec<Pass<Tally>>,
 ) -> Sums
-    requires own { All (IsPassOf ids.now) passes.items }
+    requires own { All (IsAtRest ids.now) passes.items }
     requires slots { ids.now.sizes.slots ≡ 64 }
 {
     let a = share(ids, alloc, &mut passes, 16);
@@ -250,10 +250,10 @@ fn four<R: Threads + Wait + Sync>(
     let (x, y) = thread::join(
         rt,
         move || -> Sums
-            requires { All (IsPassOf ids.now) a.items × All (IsPassOf ids.now) b.items × (ids.now.sizes.slots ≡ 64) }
+            requires { All (IsAtRest ids.now) a.items × All (IsAtRest ids.now) b.items × (ids.now.sizes.slots ≡ 64) }
         { two(rt, ids, alloc, a, b) },
         move || -> Sums
-            requires { All (IsPassOf ids.now) c.items × All (IsPassOf ids.now) passes.items × (ids.now.sizes.slots ≡ 64) }
+            requires { All (IsAtRest ids.now) c.items × All (IsAtRest ids.now) passes.items × (ids.now.sizes.slots ≡ 64) }
         { two(rt, ids, alloc, c, passes) },
     );
     both(x, y)

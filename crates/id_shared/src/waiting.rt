@@ -1,11 +1,13 @@
 //! The calls that may wait. Each tries again and yields in between, as long as it takes; nothing is promised about when a
 //! call that waits returns.
-ghost use Rattle.std.specs.Prelude.{◌≡◌};
+ghost use Rattle.std.specs.Prelude.{◌≡◌, ◌<◌};
+ghost use Rattle.id_rule.specs.Accounts.{IsAccounted};
 ghost use Rattle.id_shared.specs.Answers.{IsLockEnd, IsGoneEnd, HasSeenEnd, IsJoined, IsJoinSeen};
-ghost use Rattle.id_shared.specs.Claims.{HasLockEnd, KeepsClaims, KeepsOthers};
+ghost use Rattle.id_shared.specs.Claims.{HasLockEnd, HasPostEnd, KeepsClaims, KeepsErrors, KeepsOthers};
+ghost use Rattle.id_shared.specs.Posts.{IsPostEnd, IsGonePostEnd};
 ghost use Rattle.id_shared.specs.Standing.{IsPassOf, HasOwner};
 
-use crate::answers::{CollectEnd, LockEnd, TryLock};
+use crate::answers::{CollectEnd, LockEnd, PostEnd, TryLock, TryPost};
 use crate::claims::Owner;
 use crate::ids::Ids;
 use crate::pass::Pass;
@@ -22,10 +24,11 @@ impl<T: Tenant> Ids<T> {
     pub fn lock<R: Wait>(&self, rt: &R, pass: &mut Pass<T>, id: u64) -> LockEnd<T>
         requires own { IsPassOf self.now pass.old }
         ensures own { IsPassOf self.now pass.new }
-        ensures answer { IsLockEnd T.log T.first_id self.now.sizes.slots id pass.old result pass.new }
+        ensures answer { IsLockEnd T.log T.first_id T.receipt self.now.sizes.slots id pass.old result pass.new }
         ensures stays_gone { HasSeenEnd self.now.sizes.slots id pass.old → IsGoneEnd result }
         ensures holding { HasLockEnd T.log pass.new result }
         ensures claims { KeepsClaims pass.old pass.new }
+        ensures errors { KeepsErrors pass.old pass.new }
     {
         for _ in rt.forever() {
             match self.try_lock(pass, id) {
@@ -40,13 +43,41 @@ impl<T: Tenant> Ids<T> {
         unreachable!()
     }
 
+    /// Posts an error with a code below 65,536 to an id, and tries again for as long as other passes are faster. The answers
+    /// are those of `try_post`, but for `Again`.
+    pub fn post<R: Wait>(&self, rt: &R, pass: &mut Pass<T>, id: u64, code: u32) -> PostEnd<T>
+        requires own { IsPassOf self.now pass.old }
+        requires code { code < 65536 }
+        ensures own { IsPassOf self.now pass.new }
+        ensures answer { IsPostEnd T.log T.first_id T.receipt self.now.sizes.slots id code pass.old result pass.new }
+        ensures stays_gone { HasSeenEnd self.now.sizes.slots id pass.old → IsGonePostEnd result }
+        ensures holding { HasPostEnd T.log pass.new result }
+        ensures claims { KeepsClaims pass.old pass.new }
+        ensures errors { KeepsErrors pass.old pass.new }
+    {
+        for _ in rt.forever() {
+            match self.try_post(pass, id, code) {
+                TryPost::Locked(hold, value) => return PostEnd::Locked(hold, value),
+                TryPost::Queued(receipt) => return PostEnd::Queued(receipt),
+                TryPost::Gone(word) => return PostEnd::Gone(word),
+                TryPost::NoSlot => return PostEnd::NoSlot,
+                TryPost::NoNode => return PostEnd::NoNode,
+                TryPost::Again(_, _) => {}
+            }
+            thread::yield_now();
+        }
+        unreachable!()
+    }
+
     /// Waits until the owner's range was destroyed, and collects its value.
     pub fn join<R: Wait>(&self, rt: &R, pass: &mut Pass<T>, owner: Owner) -> T
         requires own { IsPassOf self.now pass.old }
         requires owner { HasOwner pass.old owner }
         ensures own { IsPassOf self.now pass.new }
         ensures answer { IsJoined T.log T.first_id owner pass.old result pass.new }
+        ensures accounted { IsAccounted T.receipt pass.new.view }
         ensures others { KeepsOthers owner.slot pass.old pass.new }
+        ensures errors { KeepsErrors pass.old pass.new }
     {
         let mut waits = owner;
         for _ in rt.forever() {
@@ -66,6 +97,7 @@ impl<T: Tenant> Ids<T> {
         ensures own { IsPassOf self.now pass.new }
         ensures answer { IsJoinSeen self.now.sizes.slots id pass.old result pass.new }
         ensures claims { KeepsClaims pass.old pass.new }
+        ensures errors { KeepsErrors pass.old pass.new }
     {
         let Some(slot) = slot_of(id) else {
             return None;

@@ -1,6 +1,6 @@
 use Rattle.std.proofs.Common.{refl, sym, ap, arith, ◌∙◌}
 use Rattle.id_rule.specs.Parts.{giving_view}
-use Rattle.id_rule.proofs.Quiet.{quiet_split}
+use Rattle.id_rule.proofs.Openings.{split_keeps}
 use Rattle.id_shared.proofs.Steady.{steady_split}
 use Rattle.id_shared.proofs.ids.Ids.another.Goals as goal
 
@@ -11,15 +11,10 @@ split_seat-seat-requires g c =
     let same = ap (λ z. z.table) is ∙ sym (ap (λ z. z.table) c.self.view_is) in (
       same,
       (let a = c.self.invariant.2 in let b = c.self.invariant.3 in omega (arith, a, b)),
-      quiet_split g.T.Tenant.log g.T.Tenant.first_id g.T.Tenant.receipt t.key s.id s.me.0 c.args.number (ap (λ z. z.view.next) is),
+      split_keeps g.T.Tenant.log g.T.Tenant.first_id g.T.Tenant.receipt t.key s.id s.me.0 c.args.number (ap (λ z. z.view.next) is),
     )
 
 pub invariant_of-root : goal.invariant_of-root
 invariant_of-root g c =
     let e = c.split_seat-seat.ensures in let s = c.root.inside.seat in
-    steady_split s.table_id c.split_seat-seat.new.seat.table_id _ s.me c.split_seat-seat.new.seat.me (giving_view s.me.0) e.0 e.2 refl c.root.invariant.hand c.root.invariant.taken c.root.invariant
-
-pub invariant_of-root-2 : goal.invariant_of-root-2
-invariant_of-root-2 g c =
-    let e = c.split_seat-seat.ensures in let s = c.root.inside.seat in
-    steady_split s.table_id c.split_seat-seat.new.seat.table_id _ s.me c.split_seat-seat.new.seat.me (giving_view s.me.0) e.0 e.2 refl c.root.invariant.hand c.root.invariant.taken c.root.invariant
+    (steady_split s.table_id c.split_seat-seat.new.seat.table_id _ _ _ s.me c.split_seat-seat.new.seat.me (giving_view s.me.0) e.0 e.2 refl refl refl refl refl c.root.invariant.0.hand c.root.invariant.0.taken c.root.invariant.0, c.root.invariant.1)

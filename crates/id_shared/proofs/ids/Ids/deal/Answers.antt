@@ -11,7 +11,7 @@ loop-number-preserved g c =
     let below : c.loop-number.number < c.args.passes = c.loop-number-test.true in (
       c.in_ok-pass.ensures.root,
       subst (AreOpened c.args.self.now 1) (sym items) (opened_push c.args.self.now 1 c.loop-number.all.items c.in_ok-pass.pass c.loop-number.number len inv.1
-          (opened_new c.args.self.now c.loop-number.number c.in_ok-pass.pass c.in_ok-pass.ensures.pass)),
+          (opened_new c.args.self.now c.loop-number.number c.in_ok-pass.pass c.in_ok-pass.ensures.pass (subst (λ z. c.loop-number.number < z) c.requires.passes.1 below))),
       ap (λ xs. 1 + length xs) items ∙ omega (arith, length-append c.loop-number.all.items (c.in_ok-pass.pass ∷ []), len),
       omega arith,
     )

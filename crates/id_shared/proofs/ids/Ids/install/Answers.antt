@@ -2,10 +2,10 @@ use Rattle.std.proofs.Common.{◌≡◌, refl, sym, subst, Some}
 use Rattle.rpc_model.specs.Gone.{first_in, range_in}
 use Rattle.id_rule.specs.Changes.{part_with_range}
 use Rattle.id_rule.specs.Parts.{part_of}
-use Rattle.id_rule.proofs.Quiet.{quiet_install}
+use Rattle.id_rule.proofs.Turns.{install_keeps}
 use Rattle.id_shared.specs.Standing.{Claim, Standing, HasSpot}
 use Rattle.id_shared.proofs.Tables.{at_claim}
-use Rattle.id_shared.proofs.Steady.{steady_held, spot_is_low}
+use Rattle.id_shared.proofs.Steady.{steady_part, spot_is_low}
 use Rattle.id_shared.proofs.ids.Ids.install.Goals as goal
 
 pub compare_exchange_with-requires : goal.compare_exchange_with-requires
@@ -14,10 +14,10 @@ compare_exchange_with-requires g c =
     let has : (part_of s.me.0 k.slot).spot ≡ Some (k.first, k.size) = subst (λ (z : Claim × Standing g.row.T-Entry.Denot). HasSpot z.1 z.0) (λ y. (sym c.spot.view_is y, sym c.pass.view_is y))
     c.requires.spot in
     let at = at_claim t.table_id s.table_id t.key c.self.inside.sizes c.args.self.now c.args.pass.now _ k.slot c.self.view_is c.self.invariant c.pass.view_is refl c.requires.own
-    (spot_is_low s.table_id.slots _ k.slot s.me c.pass.invariant (k.first, k.size) has) in (
+    (spot_is_low s.table_id.slots _ _ k.slot _ s.me c.pass.invariant.0 (k.first, k.size) has) in (
       at.0,
       at.2,
-      quiet_install g.T.Tenant.log g.T.Tenant.first_id g.T.Tenant.receipt t.key _ s.id k.slot s.me c.pack-old.result c.pack-new.result k.first k.size c.args.value at.1 c.requires.log has
+      install_keeps g.T.Tenant.log g.T.Tenant.first_id g.T.Tenant.receipt t.key _ s.id k.slot s.me c.pack-old.result c.pack-new.result k.first k.size c.args.value at.1 c.requires.log has
           c.pack-old.ensures.word c.pack-new.ensures.word,
     )
 
@@ -27,7 +27,9 @@ invariant_of-pass g c =
     let has : (part_of s.me.0 k.slot).spot ≡ Some (k.first, k.size) = subst (λ (z : Claim × Standing g.row.T-Entry.Denot). HasSpot z.1 z.0) (λ y. (sym c.spot.view_is y, sym c.pass.view_is y))
     c.requires.spot in
     let at = at_claim t.table_id s.table_id t.key c.self.inside.sizes c.args.self.now c.args.pass.now _ k.slot c.self.view_is c.self.invariant c.pass.view_is refl c.requires.own
-    (spot_is_low s.table_id.slots _ k.slot s.me c.pass.invariant (k.first, k.size) has) in
-    let e = c.compare_exchange_with.ensures in let n = c.pack-new.result in
-    steady_held s.table_id c.compare_exchange_with.new.seat.table_id k.slot _ s.me c.compare_exchange_with.new.seat.me e.0 at.3 c.pass.invariant s.me.0.seen
-    (part_with_range (part_of s.me.0 k.slot) (first_in n, range_in n) (g.T.Tenant.log e.2.0)) (first_in n) (range_in n) refl e.2.3 e.2.2
+    (spot_is_low s.table_id.slots _ _ k.slot _ s.me c.pass.invariant.0 (k.first, k.size) has) in
+    let e = c.compare_exchange_with.ensures in let n = c.pack-new.result in (
+      steady_part s.table_id c.compare_exchange_with.new.seat.table_id k.slot _ _ _ s.me c.compare_exchange_with.new.seat.me e.0 at.3 c.pass.invariant.0 s.me.0.seen
+          (part_with_range (part_of s.me.0 k.slot) (first_in n, range_in n) (g.T.Tenant.log e.2.0)) (refl, refl) e.2.2,
+      c.pass.invariant.1,
+    )

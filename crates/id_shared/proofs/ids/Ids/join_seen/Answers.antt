@@ -4,7 +4,7 @@ use Rattle.rpc_model.specs.Gone.{gone_by, is_live_in}
 use Rattle.id_shared.specs.Answers.{IsSlotOf}
 use Rattle.id_shared.specs.Standing.{IdTable}
 use Rattle.std.specs.Prelude.{Some}
-use Rattle.id_shared.proofs.Keeping.{seen_claims}
+use Rattle.id_shared.proofs.Keeping.{seen_claims, seen_errors}
 use Rattle.id_shared.proofs.Waits.{waits_more, seen_end}
 use Rattle.id_shared.proofs.ids.Ids.join_seen.Goals as goal
 
@@ -32,3 +32,7 @@ loop-preserved g c =
     ) in
     let n = c.args.self.now.sizes.slots in let p = c.args.pass.now in
     (c.load-word.ensures.own, waits_more n c.args.id c.in-Some.slot c.load-word.result p c.loop.pass c.load-word.new.pass c.loop.invariant.1 is c.load-word.ensures.view)
+
+pub returns-then-not-is_live-clause-errors : goal.returns-then-not-is_live-clause-errors
+returns-then-not-is_live-clause-errors g c =
+    seen_errors c.args.self.now.sizes.slots c.args.id c.args.pass.now c.load-word.new.pass (Some c.load-word.result) (returns-then-not-is_live-clause-answer g c)
