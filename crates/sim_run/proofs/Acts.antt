@@ -1,5 +1,5 @@
 -- A call that acts is the plain machine's call, and each mark that it waits for is among all marks.
-use Rattle.std.proofs.Common.{◌≡◌, ℕ, zero, suc, ◌+◌, ◌*◌, ◌<◌, ◌≤◌, ◌⊎◌, inl, inr, max, Bool, true, false, cond, nat_le, List, [], ◌∷◌, length, Option, Some, None, is_some, refl, ap, sym, ◌∙◌, subst, arith, if◌then◌else◌}
+use Rattle.std.proofs.Common.{◌≡◌, ℕ, zero, suc, ◌+◌, ◌<◌, ◌≤◌, inl, inr, max, Bool, true, false, cond, nat_le, List, [], ◌∷◌, Option, Some, None, is_some, refl, ap, sym, ◌∙◌, subst, arith}
 use Rattle.std.proofs.lemmas.Bool.Decides.{nat_tests}
 use Rattle.std.specs.List.{AllByRecursion}
 use Rattle.rpc_model.specs.declared.event.Event.{Event}
@@ -7,7 +7,7 @@ use Rattle.rpc_model.specs.Effects.{Mark as CallMark}
 use Rattle.rpc_model.specs.Kinds.{script_kinds}
 use Rattle.rpc_model.specs.Machine.{step}
 use Rattle.rpc_model.specs.State.{end_of}
-use Rattle.rpc_model.specs.Marks.{Begun, is_before, set_mark, set_all, apply, take_mark, mark_event, least_mark, marks_left, unstarted, weave_at_most, weave_least, weave, finish_at_most, finish_least, finish}
+use Rattle.rpc_model.specs.Marks.{Begun, is_before, set_mark, set_all, take_mark, mark_event, least_mark, marks_left, weave_at_most, weave_least, finish_at_most, finish_least, finish}
 use Rattle.rpc_model.proofs.Early.{taken-left}
 use Rattle.rpc_model.proofs.Within.{AreWithin, step-within}
 use Rattle.sim_run.proofs.Fit.{taken-fit}

@@ -12,7 +12,7 @@ use Rattle.rpc_model.specs.Versions.{offset_of}
 use Rattle.rpc_model.specs.State.{end_of}
 use Rattle.rpc_model.specs.Marks.{Begun, least_mark, mark_event, marks_left, unstarted}
 use Rattle.rpc_model.proofs.Few.{call-step-few}
-use Rattle.id_pool.specs.Ranges.{Slot, Vacant, Retired, Taken, Range, Seen, Nothing, Unlocked, Locked, change}
+use Rattle.id_pool.specs.Ranges.{Slot, Vacant, Retired, Taken, Seen, Nothing, Unlocked, Locked, change}
 use Rattle.timer_core.specs.declared.mark.Mark.{Mark}
 use Rattle.timer_core.specs.Marks.{added, comes_after}
 use Rattle.sim_run.specs.declared.turn.Turn.{Turn}

@@ -1,5 +1,5 @@
 -- What a step leaves of a call within its range of ids.
-use Rattle.std.proofs.Common.{◌≡◌, ℕ, zero, suc, ◌+◌, ◌<◌, ◌≤◌, max, Bool, true, false, cond, nat_le, List, [], ◌∷◌, Option, Some, None, is_none, is_some, refl, ap, ◌∙◌, arith, subst}
+use Rattle.std.proofs.Common.{◌≡◌, ℕ, zero, suc, ◌<◌, ◌≤◌, max, Bool, true, false, cond, nat_le, List, [], ◌∷◌, Option, Some, None, is_some, refl, ap, ◌∙◌, arith, subst}
 use Rattle.std.proofs.lemmas.Bool.Decides.{nat_tests}
 use Rattle.std.specs.List.{AllByRecursion}
 use Rattle.rpc_model.specs.declared.kinds.MapKind.{MapKind}
@@ -9,13 +9,13 @@ use Rattle.rpc_model.specs.declared.event.Event.TheVariants.{Reply, Lost, Backup
 use Rattle.rpc_model.specs.Effects.{Mark}
 use Rattle.rpc_model.specs.Kinds.{script_kinds}
 use Rattle.rpc_model.specs.Plan.{Plan}
-use Rattle.rpc_model.specs.Versions.{nodes, width}
+use Rattle.rpc_model.specs.Versions.{width}
 use Rattle.rpc_model.specs.State.{State, waits, leaf_state, par_state, sel_state, size, end_of}
 use Rattle.rpc_model.specs.Machine.{step, start, cancelled}
 use Rattle.rpc_model.specs.Marks.{Begun, begin, apply, is_before, set_mark, set_all, take_mark, mark_event, least_mark, marks_left, weave_at_most, weave_least, weave, finish_at_most, finish_least}
 use Rattle.rpc_model.proofs.Early.{taken-left}
 use Rattle.rpc_model.proofs.Sizes.{size-step, size-start}
-use Rattle.rpc_model.proofs.Within.{AreWithin, step-within, start-within}
+use Rattle.rpc_model.proofs.Within.{step-within, start-within}
 use Rattle.chan_tree.proofs.Offsets.{few_attempts}
 use Rattle.sim_run.specs.declared.turn.Turn.{Turn}
 use Rattle.sim_run.specs.declared.turn.Turn.TheVariants as turn

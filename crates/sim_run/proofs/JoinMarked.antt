@@ -4,8 +4,8 @@ use Rattle.std.specs.Map.{lookup}
 use Rattle.rpc_model.specs.declared.event.End.{End}
 use Rattle.rpc_model.specs.State.{end_of}
 use Rattle.rpc_model.specs.Marks.{Begun}
-use Rattle.id_pool.specs.Ids.{make_id, slot_of, version_of}
-use Rattle.id_pool.specs.Ranges.{Slot, Vacant, Taken, Range, Nothing, Unlocked, look, slot_at, change, change_at, changed}
+use Rattle.id_pool.specs.Ids.{make_id, version_of}
+use Rattle.id_pool.specs.Ranges.{Slot, Taken, Range, Nothing, Unlocked, look, change, change_at, changed}
 use Rattle.id_pool.specs.Answers.{value_says}
 use Rattle.timer_core.specs.declared.mark.Mark.{Mark}
 use Rattle.sim_run.specs.declared.ticket.Ticket.{Ticket}

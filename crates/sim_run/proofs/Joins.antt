@@ -1,5 +1,5 @@
 -- A join locks the call's range, takes the call's marks, and lets the range go or ends it.
-use Rattle.std.proofs.Common.{◌≡◌, ◌≢◌, ℕ, zero, suc, ◌+◌, ◌-◌, ◌*◌, ◌/◌, ◌^◌, ◌<◌, ◌≤◌, ◌==◌, arith, length, slice_get, ◌∷◌, Bool, true, false, not, List, [], Option, None, Some, is_some, ap, sym, refl, ◌∙◌, subst}
+use Rattle.std.proofs.Common.{◌≡◌, ◌≢◌, ℕ, zero, suc, ◌-◌, ◌/◌, ◌^◌, ◌<◌, ◌≤◌, ◌==◌, arith, length, slice_get, ◌∷◌, Bool, true, false, not, List, [], Option, None, Some, is_some, ap, sym, refl, ◌∙◌, subst}
 use Rattle.std.specs.Option.{option_map}
 use Rattle.rpc_model.specs.declared.event.End.{End}
 use Rattle.rpc_model.specs.declared.told.Told.TheVariants.{Unended}

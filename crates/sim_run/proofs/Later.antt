@@ -2,7 +2,7 @@
 use Rattle.std.proofs.Common.{◌≡◌, ℕ, zero, suc, max, Bool, true, false, cond, nat_le, List, Option, Some, None, is_some, refl, ◌∙◌}
 use Rattle.rpc_model.specs.Effects.{Mark}
 use Rattle.rpc_model.specs.State.{end_of}
-use Rattle.rpc_model.specs.Marks.{Begun, apply, take_mark, least_mark, marks_left, weave_at_most, weave_least, finish_at_most, finish_least}
+use Rattle.rpc_model.specs.Marks.{Begun, take_mark, least_mark, marks_left, weave_at_most, weave_least, finish_at_most, finish_least}
 use Rattle.sim_run.specs.declared.turn.Turn.{Turn}
 use Rattle.sim_run.specs.declared.turn.Turn.TheVariants as turn
 use Rattle.sim_run.specs.Slots.{turned, finished}

@@ -1,6 +1,5 @@
 -- The servers of a leaf of a plan are known ones.
-use Rattle.std.proofs.Common.{◌≡◌, ℕ, ◌+◌, ◌%◌, ◌<◌, ◌≤◌, ◌==◌, Bool, true, false, cond, List, length, Option, Some, None, refl, ap, arith}
-use Rattle.std.specs.Prelude.{All, slice_index}
+use Rattle.std.proofs.Common.{ℕ, ◌+◌, ◌%◌, ◌<◌, ◌==◌, Bool, true, false, cond, length, Option, Some, None, arith}
 use Rattle.rpc_model.specs.declared.chan.LeafChan.{LeafChan}
 use Rattle.rpc_model.specs.declared.kinds.MapKind.{MapKind}
 use Rattle.rpc_model.specs.declared.kinds.MergeKind.{MergeKind}

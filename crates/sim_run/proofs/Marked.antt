@@ -1,11 +1,11 @@
 -- The one list of marks beside the slots: the mark that is due, and what follows where none is.
-use Rattle.std.proofs.Common.{◌≡◌, ℕ, ◌+◌, ◌<◌, ◌≤◌, inl, inr, Bool, true, false, leb, List, [], ◌∷◌, slice_get, Option, None, Some, if◌then◌else◌, ap, sym, refl, ◌∙◌, arith}
+use Rattle.std.proofs.Common.{◌≡◌, ℕ, ◌+◌, ◌<◌, ◌≤◌, inl, inr, Bool, true, false, leb, List, [], ◌∷◌, None, Some, if◌then◌else◌, ap, sym, refl, ◌∙◌, arith}
 use Rattle.std.proofs.lemmas.Bool.Decides.{nat_tests}
 use Rattle.std.specs.List.{AllByRecursion}
 use Rattle.rpc_model.specs.Effects.{Mark as CallMark}
 use Rattle.rpc_model.specs.Marks.{Begun}
 use Rattle.id_pool.specs.Ids.{make_id}
-use Rattle.id_pool.specs.Ranges.{Slot, Taken, Range}
+use Rattle.id_pool.specs.Ranges.{Slot}
 use Rattle.timer_core.specs.declared.mark.Mark.{Mark}
 use Rattle.timer_core.specs.Marks.{due_mark, rest_after, is_due, NoneIsDue}
 use Rattle.sim_run.specs.Marked.{HasMark, HasMarks, AreMarked, AreSettled}

@@ -1,11 +1,11 @@
 -- A moment is reached: the marks that are due are taken one after the other.
-use Rattle.std.proofs.Common.{◌≡◌, ◌≢◌, ℕ, ◌+◌, ◌-◌, ◌*◌, ◌^◌, ◌<◌, ◌≤◌, inl, inr, Bool, true, false, cond, nat_eq, List, [], ◌∷◌, length, map, slice_get, Option, None, Some, ap, sym, refl, ◌∙◌, subst, arith}
+use Rattle.std.proofs.Common.{◌≡◌, ℕ, ◌+◌, ◌*◌, ◌^◌, ◌<◌, ◌≤◌, inl, inr, Bool, true, false, cond, nat_eq, List, [], ◌∷◌, length, map, slice_get, Option, None, Some, ap, sym, refl, ◌∙◌, subst, arith}
 use Rattle.std.specs.List.{AllByRecursion}
 use Rattle.std.specs.Map.{lookup}
 use Rattle.rpc_model.specs.declared.script.Script.{Script}
 use Rattle.rpc_model.specs.Effects.{Mark as CallMark}
 use Rattle.rpc_model.specs.Marks.{Begun, weave, unstarted}
-use Rattle.rpc_model.specs.Told.{Standing, begun, change_first, is_call}
+use Rattle.rpc_model.specs.Told.{Standing, change_first, is_call}
 use Rattle.rpc_model.specs.Early.{settle, settled}
 use Rattle.rpc_model.proofs.Early.{settle-twice}
 use Rattle.id_pool.specs.Ids.{make_id, slot_of, version_of}

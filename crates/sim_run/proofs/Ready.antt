@@ -16,7 +16,7 @@ use Rattle.sim_run.specs.declared.turn.Turn.TheVariants as turn
 use Rattle.sim_run.specs.Slots.{visit, turned, acts_by}
 use Rattle.sim_run.specs.Acting.{turned_by}
 use Rattle.sim_run.specs.Marked.{AreMarked, AreSettled}
-use Rattle.sim_run.specs.Desk.{is_taken, IsSlot, IsSound, IsReady, replay_of, ticket_in, width_of}
+use Rattle.sim_run.specs.Desk.{is_taken, IsSlot, IsSound, IsReady, replay_of, ticket_in}
 use Rattle.sim_run.proofs.Entries.{count-cons, known-of}
 use Rattle.sim_run.proofs.Steps.{Follows, IsSettledAt, most, lives, event-changes, event-nothing}
 use Rattle.sim_run.proofs.Brings.{Brings, brings, turn-does}

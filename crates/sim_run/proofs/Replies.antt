@@ -1,7 +1,5 @@
 -- A reply comes to its attempt by the attempt's id alone.
-use Rattle.std.proofs.Common.{◌≡◌, ℕ, zero, suc, slice_get, ◌+◌, ◌*◌, ◌/◌, ◌^◌, ◌<◌, ◌≤◌, ◌==◌, ◌&&◌, nat_lt, Bool, true, false, nat_eq, List, [], ◌∷◌, length, Option, None, Some, ap, sym, refl, ◌∙◌, subst, arith, add-one, if◌then◌else◌, inl, inr}
-use Rattle.std.proofs.lemmas.Bool.{eqb-true}
-use Rattle.std.proofs.lemmas.Bool.Decides.{nat_tests}
+use Rattle.std.proofs.Common.{◌≡◌, ℕ, zero, suc, slice_get, ◌+◌, ◌*◌, ◌/◌, ◌^◌, ◌<◌, ◌≤◌, nat_eq, List, [], ◌∷◌, length, Option, None, Some, ap, sym, refl, ◌∙◌, subst, arith, inl, inr}
 use Rattle.std.specs.List.{AllByRecursion}
 use Rattle.std.specs.Map.{lookup}
 use Rattle.std.specs.Option.{option_map}
@@ -17,7 +15,7 @@ use Rattle.rpc_model.proofs.Runs.{inverse}
 use Rattle.rpc_model.specs.Marks.{Begun}
 use Rattle.rpc_model.specs.Told as spec
 use Rattle.id_pool.specs.Ids.{slot_of, version_of}
-use Rattle.id_pool.specs.Ranges.{Slot, Vacant, Retired, Taken, Nothing, look, slot_at, changed}
+use Rattle.id_pool.specs.Ranges.{Slot, Nothing, look, slot_at, changed}
 use Rattle.id_pool.specs.Answers.{value_says}
 use Rattle.sim_run.specs.declared.ticket.Ticket.{Ticket}
 use Rattle.sim_run.specs.declared.state.Replay.{Replay}
@@ -27,11 +25,11 @@ use Rattle.timer_core.specs.declared.mark.Mark.{Mark}
 use Rattle.sim_run.specs.Acting.{turned_by}
 use Rattle.sim_run.specs.Slots.{visit, visit_by, turned, meant, brought, brought_to, brings_to, brought_wires, acts_by}
 use Rattle.sim_run.specs.Marked.{AreSettled}
-use Rattle.sim_run.specs.Desk.{attempt_id, plan_of, width_of, IsNumbered, IsOf, IsOfSlot, IsSlot, IsSound, IsReady, ticket_in}
+use Rattle.sim_run.specs.Desk.{attempt_id, plan_of, width_of, IsNumbered, IsOfSlot, IsSlot, IsSound, IsReady, ticket_in}
 use Rattle.sim_run.proofs.Fewer.{turned-fewer, acts-wires}
 use Rattle.sim_run.proofs.Changes.{look-at}
 use Rattle.sim_run.proofs.Apart.{high_half}
-use Rattle.sim_run.proofs.Entries.{found_if, slot-of-all, known-of}
+use Rattle.sim_run.proofs.Entries.{found_if, known-of}
 use Rattle.sim_run.proofs.Steps.{most, lives, is-over, over-look, over-nothing, event-changes}
 use Rattle.sim_run.proofs.Brings.{slice_get-within, found, Brings, brings, turn-does}
 use Rattle.sim_run.proofs.Ready.{some_ticket, settled-at}

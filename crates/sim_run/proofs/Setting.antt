@@ -1,5 +1,5 @@
 -- Lists that a loop goes over, one element after the other.
-use Rattle.std.proofs.Common.{◌≡◌, ℕ, zero, suc, ◌+◌, ◌<◌, ◌≤◌, Bool, true, false, cond, List, [], ◌∷◌, ◌++◌, length, get_or, take, drop, slice_index_or, slice_set, arith, ap, refl, sym, ◌∙◌, add-one, subst}
+use Rattle.std.proofs.Common.{◌≡◌, ℕ, zero, suc, ◌+◌, ◌<◌, ◌≤◌, true, false, cond, List, [], ◌∷◌, ◌++◌, length, get_or, take, drop, slice_index_or, slice_set, arith, ap, refl, subst}
 use Rattle.rpc_model.specs.Effects.{Mark}
 use Rattle.rpc_model.specs.Marks.{is_before, set_mark}
 use Rattle.sim_run.specs.Link.{Link}

@@ -1,7 +1,6 @@
 -- One turn of the replay's loop.
-use Rattle.std.proofs.Common.{◌≡◌, ℕ, ◌+◌, ◌*◌, ◌^◌, ◌<◌, ◌≤◌, nat_eq, false, List, ◌++◌, [], ◌∷◌, length, get_or, take, drop, All, Result, Ok, Err, OnErr, sym, ap, refl, ◌∙◌, append_assoc, subst, arith, length-append}
+use Rattle.std.proofs.Common.{◌≡◌, ℕ, ◌+◌, ◌^◌, ◌<◌, ◌≤◌, nat_eq, false, List, ◌++◌, [], ◌∷◌, length, get_or, take, drop, Result, Ok, Err, OnErr, sym, ap, refl, ◌∙◌, append_assoc, subst, arith, length-append}
 use Rattle.std.proofs.lemmas.List.{at_drop_more}
-use Rattle.std.proofs.lemmas.List.Elements.{All-get_or}
 use Rattle.std.specs.List.{IsDistinct, AllByRecursion}
 use Rattle.std.specs.Map.{keys_of}
 use Rattle.rpc_model.specs.declared.script.Script.{Script}

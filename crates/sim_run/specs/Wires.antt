@@ -1,5 +1,5 @@
 -- The wires of a replay: what a request that is sent and a reply that comes in make of them. This project's own choice.
-use Rattle.std.specs.Prelude.{◌≡◌, ℕ, zero, suc, List, [], ◌∷◌, ◌++◌}
+use Rattle.std.specs.Prelude.{ℕ, zero, suc, List, [], ◌∷◌, ◌++◌}
 use Rattle.link_core.specs.Outstanding.{without}
 use Rattle.sim_run.specs.Link.{Link}
 

@@ -1,5 +1,5 @@
 -- One mark more is taken, or the call has an end or none is left.
-use Rattle.std.proofs.Common.{◌≡◌, ◌+◌, ℕ, max, ap, sym, subst, ◌∙◌, arith}
+use Rattle.std.proofs.Common.{ℕ, max, ap, sym, ◌∙◌, arith}
 use Rattle.rpc_model.specs.Marks.{marks_left}
 use Rattle.sim_run.specs.Acting.{Acting, acting, acted, finished_by}
 use Rattle.sim_run.proofs.Acts.{joined-moment}

@@ -1,5 +1,5 @@
 -- One mark more is taken, or none is due.
-use Rattle.std.proofs.Common.{◌≡◌, ap, sym, subst, ◌∙◌, arith}
+use Rattle.std.proofs.Common.{ap, sym, ◌∙◌, arith}
 use Rattle.rpc_model.specs.Marks.{marks_left}
 use Rattle.sim_run.specs.Acting.{Acting, acting, acted, woven}
 use Rattle.sim_run.proofs.Taking.{weave-turn, weave-end}

@@ -1,10 +1,7 @@
 -- An accepted script's channels have plans for its calls, whose leaves have known servers.
-use Rattle.std.proofs.Common.{◌≡◌, Some, None, ap, sym, subst, ◌∙◌}
-use Rattle.rpc_model.specs.Faults.{missing_part}
+use Rattle.std.proofs.Common.{sym, ◌∙◌}
 use Rattle.chan_tree.specs.Asked.{IsRefused}
 use Rattle.chan_tree.specs.declared.planning.PlanFault.TheVariants.{MissingPart}
-use Rattle.rpc_model.specs.Plan.{plan}
-use Rattle.rpc_model.specs.Served.{AreServed}
 use Rattle.sim_run.proofs.Chans.{chans-sound, whole, plan-served}
 use Rattle.sim_run.proofs.planning.planned.Goals as goal
 

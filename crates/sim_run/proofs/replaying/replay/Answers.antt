@@ -1,5 +1,5 @@
 -- One more line.
-use Rattle.std.proofs.Common.{◌≡◌, ◌+◌, ◌^◌, ◌<◌, [], ◌++◌, length, ap, refl, sym, subst, ◌∙◌, arith, length-append}
+use Rattle.std.proofs.Common.{◌+◌, ◌^◌, ◌<◌, [], ◌++◌, length, ap, refl, sym, subst, ◌∙◌, arith, length-append}
 use Rattle.std.specs.Map.{keys_of}
 use Rattle.rpc_model.specs.Told.{Replay, told, told_from, tells, after, unbegun}
 use Rattle.rpc_model.specs.Early.{settled}

@@ -1,5 +1,5 @@
 -- The range is locked, its value is changed, and it is let go.
-use Rattle.std.proofs.Common.{◌-◌, sym, arith, ap, ◌∙◌}
+use Rattle.std.proofs.Common.{sym, arith, ◌∙◌}
 use Rattle.id_pool.specs.Ranges.{look}
 use Rattle.sim_run.specs.Slots.{turned}
 use Rattle.sim_run.proofs.Changes.{visit-changed, visit-nothing}

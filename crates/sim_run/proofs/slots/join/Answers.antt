@@ -1,5 +1,5 @@
 -- A join finds the call, takes its marks, and lets its range go or ends it.
-use Rattle.std.proofs.Common.{◌≡◌, ◌-◌, sym, ap, arith, ◌∙◌}
+use Rattle.std.proofs.Common.{◌≡◌, sym, ap, arith, ◌∙◌}
 use Rattle.id_pool.specs.Ranges.{look}
 use Rattle.id_pool.specs.Answers.{collect_says}
 use Rattle.sim_run.specs.Acting.{joined_by}

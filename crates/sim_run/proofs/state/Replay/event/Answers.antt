@@ -1,5 +1,5 @@
 -- The event comes to the call that its first id finds.
-use Rattle.std.proofs.Common.{◌∙◌, sym, refl, ap, length, arith, List}
+use Rattle.std.proofs.Common.{◌∙◌, refl, ap, length, arith, List}
 use Rattle.id_pool.specs.Ranges.{look}
 use Rattle.rpc_model.specs.Told as spec
 use Rattle.sim_run.specs.Link.{Link}

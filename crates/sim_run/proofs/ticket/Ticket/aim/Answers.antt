@@ -1,7 +1,5 @@
 -- The leaf that was found has servers, all of them known.
-use Rattle.std.proofs.Common.{◌≡◌, ◌<◌, ℕ, Some, Option, ap, sym, subst, ◌∙◌}
-use Rattle.rpc_model.specs.declared.chan.LeafChan.{LeafChan}
-use Rattle.rpc_model.specs.Served.{IsServed}
+use Rattle.std.proofs.Common.{◌≡◌, Some, ap, sym, subst, ◌∙◌}
 use Rattle.rpc_model.specs.Versions.{leaf_at}
 use Rattle.sim_run.specs.Desk.{plan_of}
 use Rattle.sim_run.proofs.Leaves.{IsServedIn, leaf-served, server-known}
