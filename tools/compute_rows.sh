@@ -7,9 +7,9 @@ cd "$(dirname "$0")/.."
 work=$(mktemp -d)
 trap 'rm -rf "$work"' EXIT
 mkdir -p "$work/crates/rows_computed/src" "$work/crates/rows_computed/proofs"
-cp -r crates/rpc_base crates/rpc_model crates/tree_model "$work/crates/"
-grep -E '^(rpc_base|rpc_model|tree_model)[ :]' crates.txt >"$work/crates.txt"
-echo 'rows_computed: rpc_base rpc_model tree_model' >>"$work/crates.txt"
+cp -r crates/rpc_base crates/rpc_model "$work/crates/"
+grep -E '^(rpc_base|rpc_model)[ :]' crates.txt >"$work/crates.txt"
+echo 'rows_computed: rpc_base rpc_model' >>"$work/crates.txt"
 cp HANDLES "$work/"
 printf '//! Rows, computed.\n#![tactic(auto)]\n' >"$work/crates/rows_computed/src/lib.rt"
 

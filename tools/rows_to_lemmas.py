@@ -165,7 +165,7 @@ def lemma(number, name, script, answer):
 
 
 def main():
-    path, crate = sys.argv[1], "tree_model"
+    path, crate = sys.argv[1], "rpc_model"
     first = int(sys.argv[2]) if len(sys.argv) > 2 else 1
     count = int(sys.argv[3]) if len(sys.argv) > 3 else 10**9
     print(HEAD.format(source=path.rsplit("/", 1)[-1], crate=crate), end="")
