@@ -11,9 +11,8 @@ ghost use Rattle.call_tree.specs.Starting.{first_ask, rest_of};
 use crate::counts::Counts;
 use chan_tree::Rule;
 use rpc_base::Bytes;
-use rpc_model::{ECANCELED, EREQUEST, End};
+use rpc_model::{ECANCELED, EREQUEST, End, Mapped};
 use std::vec;
-use rpc_model::Mapped;
 
 /// The next request, if the next sub is asked.
 pub(crate) fn next_ask(asked: &mut vec::IntoIter<Mapped>) -> Option<Bytes>

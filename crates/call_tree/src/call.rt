@@ -11,11 +11,10 @@ use crate::outbox::Outbox;
 use crate::starting::start;
 use chan_tree::Plan;
 use rpc_base::{Bytes, List, NoMemory};
-use rpc_model::{End, Entry, Event, Origin};
+use rpc_model::{End, Entry, Event, Mapper, Merger, Origin};
 use std::alloc::Global;
 use std::marker::Model;
 use std::sync::Arc;
-use rpc_model::{Mapper, Merger};
 
 /// A call, with the events that were applied to it.
 ///

@@ -12,9 +12,8 @@ use crate::happening::{is_deadline, node_of};
 use crate::nodes::{Node, Tree};
 use crate::outbox::Outbox;
 use rpc_base::NoMemory;
-use rpc_model::{End, Event};
+use rpc_model::{End, Event, Mapper, Merger};
 use std::alloc::Global;
-use rpc_model::{Mapper, Merger};
 
 impl<M: Mapper + Copy, G: Merger + Copy> Tree<M, G> {
     /// The end that an event brings this node, whose number this is. What it brings the nodes on its way goes into `belows`,

@@ -10,9 +10,8 @@ ghost use Rattle.call_tree.specs.Folding.{with_last, or_end, text_in, merged_wit
 
 use crate::nodes::Tree;
 use rpc_base::{Bytes, NoMemory};
-use rpc_model::{ERESPONSE, ETOOMANYFAILS, End};
+use rpc_model::{ERESPONSE, ETOOMANYFAILS, End, Merger, Verdict};
 use std::alloc::Global;
-use rpc_model::{Merger, Verdict};
 
 /// The parts of the subs that ended well are merged, by rising index and without a copy of them, where the sub of this
 /// index is to end so, if that is given. So many subs failed, and so many failures end the node.

@@ -16,9 +16,8 @@ use crate::folding::fold;
 use crate::nodes::{ParNode, Tree};
 use chan_tree::last_up_to;
 use rpc_base::NoMemory;
-use rpc_model::{ERPCTIMEDOUT, ETOOMANYFAILS, End};
+use rpc_model::{ERPCTIMEDOUT, ETOOMANYFAILS, End, Mapper, Merger};
 use std::alloc::Global;
-use rpc_model::{Mapper, Merger};
 
 /// The end that this end of the sub of this index brings a node, where these are the counts with it.
 pub(crate) fn judge<M: Mapper, G: Merger>(

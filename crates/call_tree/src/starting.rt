@@ -20,8 +20,8 @@ use crate::outbox::Outbox;
 use chan_tree::{PlanNode, PlanTree, Rule};
 use fan_out::ask_all;
 use rpc_base::{Bytes, List, NoMemory};
-use std::alloc::Global;
 use rpc_model::{Mapped, Mapper, Merger};
+use std::alloc::Global;
 
 /// The node of a plan starts with this request, under this number.
 #[cycle(start)]

@@ -13,9 +13,8 @@ use crate::happening::node_of;
 use crate::nodes::{Node, Tree};
 use crate::outbox::Outbox;
 use rpc_base::NoMemory;
-use rpc_model::Event;
+use rpc_model::{Event, Mapper, Merger};
 use std::alloc::Global;
-use rpc_model::{Mapper, Merger};
 
 impl<M: Mapper + Copy, G: Merger + Copy> Tree<M, G> {
     /// An event comes to the call whose root this is, and which has so many nodes.

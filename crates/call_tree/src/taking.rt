@@ -9,8 +9,7 @@ ghost use Rattle.call_tree.specs.Running.{kinds_of};
 use crate::below::{Below, pop_below};
 use crate::happening::node_of;
 use crate::nodes::{Node, Tree};
-use rpc_model::{ECANCELED, End, Event};
-use rpc_model::{Mapper, Merger};
+use rpc_model::{ECANCELED, End, Event, Mapper, Merger};
 
 impl<M: Mapper + Copy, G: Merger + Copy> Tree<M, G> {
     /// An event that brings this node this end, or none, and the nodes on its way what `belows` has, changes them. It takes

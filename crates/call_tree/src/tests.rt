@@ -1,12 +1,11 @@
 use super::*;
 use chan_tree::{are_sound, plan};
 use rpc_base::{Bytes, List};
-use rpc_model::{End, Event, LeafChan, Origin};
+use rpc_model::{Chan, End, Event, LeafChan, MapKind, MergeKind, Origin, ParChan, Sub};
 use std::alloc::{AllocError, Global};
 use std::process::Abort;
 use std::sync::Arc;
 use std::test::Fail;
-use rpc_model::{Chan, MapKind, MergeKind, ParChan, Sub};
 
 type Kinds = Chan<MapKind, MergeKind>;
 

@@ -10,9 +10,8 @@ ghost use Rattle.chan_tree.specs.Shown.{append_plans, rule_of as rule_shown, IsP
 use crate::measuring::try_at;
 use crate::tree::{PlanNode, PlanTree, Rule, leaf_copy};
 use rpc_base::{List, NoMemory};
-use rpc_model::LeafChan;
+use rpc_model::{Chan, LeafChan, ParChan, PartChan, SelChan, Sub, Tag};
 use std::alloc::Global;
-use rpc_model::{Chan, ParChan, PartChan, SelChan, Sub, Tag};
 
 /// The plan of the channel of this number, as a tree.
 #[cycle(build)]

@@ -15,9 +15,9 @@ pub use measuring::Measure;
 pub use places::last_up_to;
 pub use planning::{PlanFault, plan};
 pub use plans::Plan;
+pub use rpc_model::{Chan, ParChan, PartChan, SelChan, Sub, Tag};
 pub use sound::are_sound;
 pub use tree::{PlanNode, PlanTree, Rule, leaf_copy};
-pub use rpc_model::{Chan, ParChan, PartChan, SelChan, Sub, Tag};
 
 #[cfg(test)]
 mod tests;

@@ -7,8 +7,8 @@ use crate::building::build;
 use crate::measuring::{Measure, measure_chan};
 use crate::plans::{Plan, tabled};
 use rpc_base::NoMemory;
-use std::alloc::Global;
 use rpc_model::Chan;
+use std::alloc::Global;
 
 /// Why a channel has no plan that a call may run. They are looked at in this order. The rules are this project's own.
 #[derive(Clone, Copy, Debug, PartialEq, Eq)]

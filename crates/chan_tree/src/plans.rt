@@ -3,13 +3,13 @@ ghost use Rattle.std.specs.Prelude.{◌≡◌, ℕ, ◌<◌, ◌≤◌, Option, 
 ghost use Rattle.rpc_model.specs.Versions as versions;
 ghost use Rattle.rpc_model.specs.declared.meaning.Meaning.TheVariants as meaning;
 
-use crate::table::{Table, add_tree, attempt_at, place_of};
 use crate::leaves::leaf_in;
+use crate::table::{Table, add_tree, attempt_at, place_of};
 use crate::tree::PlanTree;
 use rpc_base::NoMemory;
+use rpc_model::{LeafChan, Meaning};
 use std::alloc::Global;
 use std::marker::Model;
-use rpc_model::{LeafChan, Meaning};
 
 /// The plan of a call. Its range of ids has one version for each node and one for each attempt that a leaf may issue.
 #[derive(Drop)]

@@ -1,10 +1,9 @@
 use super::*;
 use rpc_base::List;
-use rpc_model::LeafChan;
+use rpc_model::{LeafChan, MapKind, Meaning, MergeKind};
 use std::alloc::{AllocError, Global};
 use std::process::Abort;
 use std::test::Fail;
-use rpc_model::{MapKind, Meaning, MergeKind};
 
 type Kinds = Chan<MapKind, MergeKind>;
 

@@ -2,8 +2,8 @@ ghost use Rattle.std.specs.Prelude.{◌≡◌, ◌^◌, ◌<◌, IfOk, length};
 ghost use Rattle.rpc_model.specs.Parallel as spec;
 
 use rpc_base::NoMemory;
-use std::alloc::Global;
 use rpc_model::{Mapped, Mapper};
+use std::alloc::Global;
 
 /// What the mappers of a parallel call ask of its subs, by rising index.
 pub fn ask_all<M: Mapper>(

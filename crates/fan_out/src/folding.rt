@@ -2,9 +2,8 @@ ghost use Rattle.std.specs.Prelude.{◌≡◌, ◌<◌, IfOk};
 ghost use Rattle.rpc_model.specs.Parallel as spec;
 
 use rpc_base::{Bytes, NoMemory};
-use rpc_model::{ERESPONSE, ETOOMANYFAILS, End};
+use rpc_model::{ERESPONSE, ETOOMANYFAILS, End, Merger, Part, Verdict};
 use std::alloc::Global;
-use rpc_model::{Merger, Part, Verdict};
 
 /// Merges the parts of the subs that succeeded, which stand by rising index, where `fails` subs failed already and
 /// `limit` failures end the call.

@@ -25,41 +25,108 @@ mod script;
 mod sent;
 mod told;
 
-pub use chan::{Chan, LeafChan, ParChan, PartChan, SelChan, Sub, Tag};
-pub use codes::{
-    EBACKUPREQUEST, ECANCELED, ECONNREFUSED, ECONNRESET, EFAILEDSOCKET, EHOSTDOWN, EINTERNAL,
-    ELIMIT, ELOGOFF, ENOMETHOD, ENOSERVICE, EPCHANFINISH, EPIPE, EREQUEST, ERESPONSE, ERPCTIMEDOUT,
-    ETOOMANYFAILS, retriable,
-};
+pub use chan::Chan;
+pub use chan::LeafChan;
+pub use chan::ParChan;
+pub use chan::PartChan;
+pub use chan::SelChan;
+pub use chan::Sub;
+pub use chan::Tag;
+pub use codes::EBACKUPREQUEST;
+pub use codes::ECANCELED;
+pub use codes::ECONNREFUSED;
+pub use codes::ECONNRESET;
+pub use codes::EFAILEDSOCKET;
+pub use codes::EHOSTDOWN;
+pub use codes::EINTERNAL;
+pub use codes::ELIMIT;
+pub use codes::ELOGOFF;
+pub use codes::ENOMETHOD;
+pub use codes::ENOSERVICE;
+pub use codes::EPCHANFINISH;
+pub use codes::EPIPE;
+pub use codes::EREQUEST;
+pub use codes::ERESPONSE;
+pub use codes::ERPCTIMEDOUT;
+pub use codes::ETOOMANYFAILS;
+pub use codes::retriable;
 pub use direction::Direction;
-pub use effects::{MarkAt, Send};
-pub use entry::{Entry, Fate, Origin};
-pub use event::{End, Event};
-pub use journal::{CallLog, Came, CancelNote, Fired, How, Journal, LaneLog, LossNote, WireLog};
-pub use kinds::{MapKind, MergeKind};
-pub use laws::{
-    due_marks_may_be_taken_at_once, ends_stay, good_ends_need_a_live_reply, leaves_issue_few,
-    moments_are_early, nodes_are_of_the_plan, nodes_stay, nothing_is_sent_twice,
-    offsets_and_meanings_are_inverse, parallel_nodes_stand_by_completions, sends_are_attempts,
-    sends_are_of_the_state, told_attempts_are_few, told_ends_are_the_machines, told_once,
-    told_texts_need_a_reply, tries_are_few, weaves_join,
-};
-pub use leaf_laws::{
-    attempts_are_few, leaf_sends_are_attempts, one_attempt, replaced_attempts_do_nothing,
-    success_needs_a_live_reply,
-};
-pub use limits::{
-    ATTEMPT_WEIGHT, CALL_NUMBER_LIMIT, CHANNEL_LIMIT, CODE_LIMIT, DEFAULT_SLOTS, DELAY_LIMIT,
-    EVENT_LIMIT, LINE_LIMIT, LIVE_CALL_LIMIT, LIVE_WEIGHT_LIMIT, MOMENT_LIMIT, NAME_LIMIT,
-    RETRY_LIMIT, SCRIPT_LIMIT, SERVER_LIMIT, SERVER_NAME_LIMIT, SIM_CALL_LIMIT, SIM_WEIGHT_LIMIT,
-    SLOT_LIMIT, SUB_LIMIT, TEXT_LIMIT, WAIT_LIMIT,
-};
+pub use effects::MarkAt;
+pub use effects::Send;
+pub use entry::Entry;
+pub use entry::Fate;
+pub use entry::Origin;
+pub use event::End;
+pub use event::Event;
+pub use journal::CallLog;
+pub use journal::Came;
+pub use journal::CancelNote;
+pub use journal::Fired;
+pub use journal::How;
+pub use journal::Journal;
+pub use journal::LaneLog;
+pub use journal::LossNote;
+pub use journal::WireLog;
+pub use kinds::MapKind;
+pub use kinds::MergeKind;
+pub use laws::due_marks_may_be_taken_at_once;
+pub use laws::ends_stay;
+pub use laws::good_ends_need_a_live_reply;
+pub use laws::leaves_issue_few;
+pub use laws::moments_are_early;
+pub use laws::nodes_are_of_the_plan;
+pub use laws::nodes_stay;
+pub use laws::nothing_is_sent_twice;
+pub use laws::offsets_and_meanings_are_inverse;
+pub use laws::parallel_nodes_stand_by_completions;
+pub use laws::sends_are_attempts;
+pub use laws::sends_are_of_the_state;
+pub use laws::told_attempts_are_few;
+pub use laws::told_ends_are_the_machines;
+pub use laws::told_once;
+pub use laws::told_texts_need_a_reply;
+pub use laws::tries_are_few;
+pub use laws::weaves_join;
+pub use leaf_laws::attempts_are_few;
+pub use leaf_laws::leaf_sends_are_attempts;
+pub use leaf_laws::one_attempt;
+pub use leaf_laws::replaced_attempts_do_nothing;
+pub use leaf_laws::success_needs_a_live_reply;
+pub use limits::ATTEMPT_WEIGHT;
+pub use limits::CALL_NUMBER_LIMIT;
+pub use limits::CHANNEL_LIMIT;
+pub use limits::CODE_LIMIT;
+pub use limits::DEFAULT_SLOTS;
+pub use limits::DELAY_LIMIT;
+pub use limits::EVENT_LIMIT;
+pub use limits::LINE_LIMIT;
+pub use limits::LIVE_CALL_LIMIT;
+pub use limits::LIVE_WEIGHT_LIMIT;
+pub use limits::MOMENT_LIMIT;
+pub use limits::NAME_LIMIT;
+pub use limits::RETRY_LIMIT;
+pub use limits::SCRIPT_LIMIT;
+pub use limits::SERVER_LIMIT;
+pub use limits::SERVER_NAME_LIMIT;
+pub use limits::SIM_CALL_LIMIT;
+pub use limits::SIM_WEIGHT_LIMIT;
+pub use limits::SLOT_LIMIT;
+pub use limits::SUB_LIMIT;
+pub use limits::TEXT_LIMIT;
+pub use limits::WAIT_LIMIT;
 pub use line::Line;
-pub use mapper::{Mapped, Mapper};
+pub use mapper::Mapped;
+pub use mapper::Mapper;
 pub use meaning::Meaning;
-pub use merger::{Merged, Merger, Verdict};
+pub use merger::Merged;
+pub use merger::Merger;
+pub use merger::Verdict;
 pub use part::Part;
-pub use script::{Act, Cause, Mode, Script, Serve};
+pub use script::Act;
+pub use script::Cause;
+pub use script::Mode;
+pub use script::Script;
+pub use script::Serve;
 pub use sent::Sent;
 pub use told::Told;
 
