@@ -2,6 +2,7 @@
 use Rattle.std.proofs.Common.{◌≡◌, ℕ, zero, suc, ◌+◌, ◌<◌, ◌≤◌, min, ◌⊎◌, inl, inr, Bool, true, false, nat_lt, List, [], ◌∷◌, ◌++◌, length, slice_get, Option, Some, None, arith, refl, ap, sym, ◌∙◌, subst, length-append}
 use Rattle.std.proofs.lemmas.Bool.Decides.{nat_tests}
 use Rattle.rpc_model.specs.declared.chan.Chan.{Chan}
+use Rattle.rpc_model.specs.declared.chan.LeafChan.{LeafChan}
 use Rattle.rpc_model.specs.declared.chan.Chan.TheVariants as chan
 use Rattle.rpc_model.specs.Plan.{Plan, plan, subs_of, tries}
 use Rattle.rpc_model.specs.Versions.{width}
@@ -120,3 +121,8 @@ module _ {M G : Type 0} (chans : List (Chan M G)) (call : ℕ) where
       granted m q is shallow none few planned =
           let d = ap (λ (x : Measure). x.depth) is in
           record { shallow = omega (arith, d, shallow); no_part_missing = sym (ap (λ (x : Measure). x.missing) is) ∙ none; planned = planned-is q planned; narrow = narrow m q is few planned }
+
+-- A plain channel is measured by itself.
+pub leaf-measured : {M G : Type 0} (chans : List (Chan M G)) (number call : ℕ) (leaf : LeafChan) (m : Measure) → slice_get chans number ≡ Some (chan.Leaf leaf) → m.depth ≡ 1 → m.missing ≡ None → m.width ≡ min 1025 (leaf.retry + 2) → m ≡ measure_at chans call number
+leaf-measured chans number call leaf m at d e w =
+    same-measure m (measure_at chans call number) (rw at d) (rw at e) (rw at w)

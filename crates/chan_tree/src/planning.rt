@@ -72,11 +72,16 @@ fn measure_of<M, G>(
     ensures { IfOk result (λ m. IsMeasureOf chans.now call number m) }
 {
     let mut before = Vec::new(alloc);
+    let chan = &chans[number as usize];
+    if let Chan::Leaf(_) = chan {
+        // A plain channel is measured by itself.
+        return Ok(measure_chan(chan, call, before.as_slice()));
+    }
     let mut at = 0u32;
     while at < number {
         let measure = measure_chan(&chans[at as usize], call, before.as_slice());
         before.push(measure)?;
         at += 1;
     }
-    Ok(measure_chan(&chans[number as usize], call, before.as_slice()))
+    Ok(measure_chan(chan, call, before.as_slice()))
 }
