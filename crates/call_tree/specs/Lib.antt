@@ -12,3 +12,4 @@ pub mod Folding
 pub mod Starting
 pub mod Brought
 pub mod Judging
+pub mod Timed
