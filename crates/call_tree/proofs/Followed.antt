@@ -1,30 +1,24 @@
 -- What follows the end of a try of a selective node.
-use Rattle.std.proofs.Common.{◌≡◌, ℕ, zero, suc, ◌+◌, ◌-◌, ◌<◌, ◌≤◌, Bool, true, false, cond, ◌==◌, nat_lt, List, [], ◌∷◌, ◌++◌, length, get_or, set, take, drop, Option, Some, None, is_some, arith, refl, ap, sym, ◌∙◌, subst}
+use Rattle.std.proofs.Common.{◌≡◌, ℕ, zero, suc, ◌+◌, ◌<◌, ◌≤◌, Bool, true, false, cond, nat_lt, List, [], ◌∷◌, ◌++◌, length, get_or, set, take, drop, Option, Some, None, arith, refl, ap, sym, ◌∙◌, subst}
 use Rattle.std.proofs.lemmas.Bool.Decides.{nat_tests}
-use Rattle.std.proofs.lemmas.List.{append-nil, append_assoc}
+use Rattle.std.proofs.lemmas.List.{append_assoc}
 use Rattle.rpc_model.specs.declared.event.End.{End}
 use Rattle.rpc_model.specs.declared.event.Event.{Event}
 use Rattle.tree_model.specs.Kinds.{Kinds}
 use Rattle.tree_model.specs.Plan.{Plan}
 use Rattle.tree_model.specs.Versions.{nodes}
 use Rattle.tree_model.specs.Selective.{next_try}
-use Rattle.tree_model.specs.State.{Sel, State, waits, leaf_state, par_state, sel_state, States, last_state, state_then, Run, Below, end_of, size, size_of, still, beside, run_then, run_beside}
-use Rattle.tree_model.specs.Machine.{node_of, new_end, while_open, sel_at, sel_stepped, try_ended, try_run, is_left, start_at, start_waiting, step_at, step_tries}
-use Rattle.call_tree.specs.declared.nodes.Node.{Node}
-use Rattle.call_tree.specs.declared.nodes.Node.TheVariants as node
-use Rattle.call_tree.specs.declared.nodes.SelNode.{SelNode}
+use Rattle.tree_model.specs.State.{State, waits, leaf_state, par_state, sel_state, States, last_state, state_then, Run, Below, end_of, size, size_of, still, beside, run_then}
+use Rattle.tree_model.specs.Machine.{node_of, new_end, try_ended, try_run, is_left, start_at, start_waiting, step_at, step_tries}
 use Rattle.call_tree.specs.Brought.{Brought, behind_end, behind_try, started_tries, brought_at, brought_tries, followed_end, followed, put_all, put_from, plan_waiting}
-use Rattle.call_tree.specs.Brought as brought
 use Rattle.call_tree.specs.Places.{firsts, IsAt}
-use Rattle.call_tree.specs.Shown.{states_of, state_of, IsSound, IsSelNode}
+use Rattle.call_tree.specs.Shown.{states_of}
 use Rattle.call_tree.specs.Starting.{after_end, after_try}
-use Rattle.call_tree.proofs.Alike.{start-alike, waiting-alike}
-use Rattle.call_tree.proofs.Folds.{other-number}
+use Rattle.call_tree.proofs.Alike.{start-alike}
 use Rattle.call_tree.proofs.Kids.{firsts-length, firsts-late, next-first, at-there}
-use Rattle.call_tree.proofs.Leaves.{none-end}
 use Rattle.call_tree.proofs.Parallels.{get-any}
 use Rattle.call_tree.proofs.Subs.{ended-then}
-use Rattle.call_tree.proofs.Weights.{size-start, size-step}
+use Rattle.call_tree.proofs.Weights.{size-start}
 
 module _ {M G : Type 0} where
   waits-of : (s : State M G) (plan : Plan M G) → plan_waiting s ≡ Some plan → s ≡ waits plan

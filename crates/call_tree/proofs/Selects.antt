@@ -1,5 +1,5 @@
 -- What an event does at a selective node without an end.
-use Rattle.std.proofs.Common.{◌≡◌, ℕ, zero, suc, ◌+◌, ◌-◌, ◌<◌, ◌≤◌, Bool, true, false, cond, ◌==◌, nat_lt, List, [], ◌∷◌, ◌++◌, length, get_or, set, take, drop, Option, Some, None, is_some, arith, refl, ap, sym, ◌∙◌, subst}
+use Rattle.std.proofs.Common.{◌≡◌, ℕ, zero, suc, ◌+◌, ◌<◌, ◌≤◌, Bool, true, false, cond, ◌==◌, nat_lt, List, [], ◌∷◌, ◌++◌, length, get_or, set, take, drop, Option, Some, None, is_some, arith, refl, ap, sym, ◌∙◌, subst}
 use Rattle.std.proofs.lemmas.Bool.Decides.{nat_tests}
 use Rattle.std.proofs.lemmas.List.{append_assoc}
 use Rattle.rpc_model.specs.declared.event.End.{End}
@@ -7,7 +7,7 @@ use Rattle.rpc_model.specs.declared.event.Event.{Event}
 use Rattle.tree_model.specs.Kinds.{Kinds}
 use Rattle.tree_model.specs.Versions.{nodes}
 use Rattle.tree_model.specs.Selective.{next_try}
-use Rattle.tree_model.specs.State.{Sel, State, waits, leaf_state, par_state, sel_state, States, state_then, Run, Below, end_of, size, size_of, still, run_then}
+use Rattle.tree_model.specs.State.{Sel, State, waits, leaf_state, par_state, sel_state, States, Run, end_of, size, size_of, still, run_then}
 use Rattle.tree_model.specs.Machine.{node_of, new_end, while_open, sel_at, sel_stepped, is_left, start_at, start_waiting, step_at, step_tries}
 use Rattle.call_tree.specs.declared.nodes.Node.{Node}
 use Rattle.call_tree.specs.declared.nodes.Node.TheVariants as node
@@ -17,9 +17,9 @@ use Rattle.call_tree.specs.Brought as brought
 use Rattle.call_tree.specs.Places.{firsts, IsAt}
 use Rattle.call_tree.specs.Shown.{states_of, state_of, IsSound, IsSelNode}
 use Rattle.call_tree.proofs.Folds.{other-number}
-use Rattle.call_tree.proofs.Kids.{at-there, firsts-length}
+use Rattle.call_tree.proofs.Kids.{at-there}
 use Rattle.call_tree.proofs.Leaves.{none-end}
-use Rattle.call_tree.proofs.Followed.{behind, behind-end, put-behind, behind-firsts, followed-put, followed-firsts, rest_from, follows, brings_try, IsTry, try-of, number-rest, none-past, drop-size}
+use Rattle.call_tree.proofs.Followed.{behind, behind-end, put-behind, behind-firsts, followed-put, followed-firsts, rest_from, follows, brings_try, try-of, number-rest, none-past, drop-size}
 use Rattle.call_tree.proofs.Weights.{size-step}
 
 module _ {M G : Type 0} where

@@ -1,5 +1,5 @@
 -- The tries of a selective node start one after the other.
-use Rattle.std.proofs.Common.{◌≡◌, ℕ, zero, suc, ◌+◌, ◌<◌, ◌≤◌, Bool, true, false, nat_lt, List, [], ◌∷◌, ◌++◌, length, drop, Option, Some, None, arith, refl, ap, sym, ◌∙◌, subst}
+use Rattle.std.proofs.Common.{◌≡◌, ℕ, zero, suc, ◌+◌, ◌<◌, Bool, true, false, nat_lt, List, [], ◌∷◌, ◌++◌, length, drop, Option, Some, None, arith, refl, ap, sym, ◌∙◌}
 use Rattle.std.proofs.lemmas.Bool.Decides.{nat_tests}
 use Rattle.std.proofs.lemmas.List.{append-nil}
 use Rattle.rpc_model.specs.declared.event.End.{End}
@@ -8,13 +8,12 @@ use Rattle.tree_model.specs.Kinds.{Kinds}
 use Rattle.tree_model.specs.Plan.{Plan, Plans, plan_then, last_plan}
 use Rattle.tree_model.specs.Versions.{nodes}
 use Rattle.tree_model.specs.Selective.{next_try}
-use Rattle.tree_model.specs.State.{State, States, last_state, Run, Below, end_of, run_then, waiting_states}
+use Rattle.tree_model.specs.State.{State, last_state, Run, Below, end_of, run_then, waiting_states}
 use Rattle.tree_model.specs.Machine.{try_ended, try_run, is_left, start_at, start_tries}
 use Rattle.chan_tree.specs.Shown.{plans_of}
 use Rattle.call_tree.specs.declared.nodes.SelNode.{SelNode}
 use Rattle.call_tree.specs.declared.outbox.Outbox.{Outbox}
 use Rattle.call_tree.specs.Growing.{IsGrown}
-use Rattle.call_tree.specs.Shown.{states_of}
 use Rattle.call_tree.specs.Starting.{joined, sub_run, after_end, after_try, tried, ask_while, are_left, tries_left, AreStarted}
 use Rattle.call_tree.proofs.Subs.{ended-then, joined-then, append-last}
 

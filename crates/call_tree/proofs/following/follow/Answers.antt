@@ -1,4 +1,4 @@
-use Rattle.std.proofs.Common.{rules, arith, ap, sym, ◌∙◌, length, ◌≡◌, suc, drop, List, ℕ}
+use Rattle.std.proofs.Common.{ap, sym, ◌∙◌, ◌≡◌, suc, drop, List, ℕ}
 use Rattle.std.specs.Option.{option_map}
 use Rattle.tree_model.specs.State.{State, Below}
 use Rattle.tree_model.specs.Machine.{start_waiting, is_left}

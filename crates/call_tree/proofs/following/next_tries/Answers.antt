@@ -1,10 +1,7 @@
-use Rattle.std.proofs.Common.{rules, arith, ap, sym, ◌∙◌, length, ◌+◌, ◌-◌, ◌++◌, ◌≡◌, ◌∷◌, [], drop, Some, subst, List, ℕ}
-use Rattle.std.proofs.lemmas.List.{append_assoc, append-nil}
+use Rattle.std.proofs.Common.{arith, ap, sym, ◌∙◌, length, ◌+◌, ◌-◌, ◌++◌, ◌≡◌, ◌∷◌, [], drop, List, ℕ}
 use Rattle.std.specs.Option.{option_map}
-use Rattle.rpc_model.specs.Machine.{Send, Mark}
 use Rattle.tree_model.specs.State.{State, Run}
 use Rattle.tree_model.specs.Machine.{start_at, start_waiting}
-use Rattle.tree_model.specs.Versions.{nodes}
 use Rattle.call_tree.specs.Brought.{started_tries}
 use Rattle.call_tree.specs.Running.{kinds_of}
 use Rattle.call_tree.specs.Shown.{states_of}

@@ -1,4 +1,4 @@
-use Rattle.std.proofs.Common.{rules, arith, ap, sym, ◌∙◌, length, ◌≡◌, ◌+◌, ◌≤◌, [], suc, set}
+use Rattle.std.proofs.Common.{arith, ap, sym, ◌∙◌, length, ◌≡◌, ◌+◌, ◌≤◌, [], suc, set}
 use Rattle.std.proofs.Math.ListN.{length-set}
 use Rattle.std.specs.Vec.Iter.{into_iter_items}
 use Rattle.call_tree.specs.Brought.{put_from}

@@ -1,6 +1,5 @@
-use Rattle.std.proofs.Common.{rules, arith, ap, sym, ◌∙◌, length, ◌≡◌, ◌+◌, ◌<◌, ◌≤◌, ℕ, [], suc, drop, get_or}
+use Rattle.std.proofs.Common.{arith, ap, ◌∙◌, length, ◌≡◌, ◌+◌, suc, drop, get_or}
 use Rattle.tree_model.specs.State.{size_of}
-use Rattle.call_tree.specs.Places.{firsts}
 use Rattle.call_tree.specs.Shown.{states_of}
 use Rattle.call_tree.proofs.Kids.{firsts-length}
 use Rattle.call_tree.proofs.Subs.{few-subs}

@@ -1,4 +1,4 @@
-use Rattle.std.proofs.Common.{rules, arith, ap, sym, ◌∙◌, ◌+◌, suc, length, ◌≡◌, get_or, set, subst, refl, ℕ}
+use Rattle.std.proofs.Common.{rules, arith, ap, sym, ◌∙◌, ◌+◌, suc, ◌≡◌, get_or, set, subst, refl, ℕ}
 use Rattle.tree_model.specs.State.{par_state, sel_state, size, end_of}
 use Rattle.tree_model.specs.Machine.{node_of, new_end, step_at}
 use Rattle.call_tree.specs.Counts.{limits_of, with_some}
