@@ -14,3 +14,4 @@ mod Counting
 mod Parallels
 mod Followed
 mod Selects
+mod Logs

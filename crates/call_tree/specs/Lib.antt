@@ -13,3 +13,4 @@ pub mod Starting
 pub mod Brought
 pub mod Judging
 pub mod Timed
+pub mod Logs

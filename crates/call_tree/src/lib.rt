@@ -10,6 +10,7 @@ mod effects;
 mod folding;
 mod following;
 mod happening;
+mod laws;
 mod leaf_node;
 mod nodes;
 mod outbox;
@@ -21,6 +22,7 @@ mod taking;
 
 pub use call::Call;
 pub use effects::Effects;
+pub use laws::calls_are_the_machines_of_their_logs;
 pub use rpc_model::{MarkAt, Send};
 
 #[cfg(test)]
