@@ -73,7 +73,7 @@ module _ {M G : Type 0} where
   firsts-push at [] s = let same : at ≡ at + 0 = omega arith in ap (λ n. n ∷ []) same
   firsts-push at (x ∷ ss) s = let same : at + size x + size_of (states_of ss) ≡ at + (size x + size_of (states_of ss)) = omega arith in ap (λ ns. at ∷ ns) (firsts-push (at + size x) ss s ∙ ap (λ n. firsts (at + size x) (states_of ss) ++ n ∷ []) same)
 
-  places-push : (ss : List (State M G)) (s : State M G) (fs : List ℕ) (place : ℕ) → fs ≡ firsts 1 (states_of ss) → place ≡ 1 + size_of (states_of ss) → fs ++ place ∷ [] ≡ firsts 1 (states_of (ss ++ s ∷ []))
+  pub places-push : (ss : List (State M G)) (s : State M G) (fs : List ℕ) (place : ℕ) → fs ≡ firsts 1 (states_of ss) → place ≡ 1 + size_of (states_of ss) → fs ++ place ∷ [] ≡ firsts 1 (states_of (ss ++ s ∷ []))
   places-push ss s fs place are at = ap (λ xs. xs ++ place ∷ []) are ∙ ap (λ n. firsts 1 (states_of ss) ++ n ∷ []) at ∙ sym (firsts-push 1 ss s)
 
   -- a sub without an end

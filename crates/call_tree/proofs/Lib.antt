@@ -7,7 +7,11 @@ mod Bounds
 mod Folds
 mod Adding
 mod Subs
+mod Tries
 mod Alike
 mod Kids
 mod Counting
 mod Parallels
+mod Followed
+mod Selects
+mod Logs

@@ -62,7 +62,7 @@ module _ {M G : Type 0} where
   append-push [] s rest = refl
   append-push (x ∷ ss) s rest = ap (state_then x) (append-push ss s rest)
 
-  append-last : (ss : List (State M G)) → append_states ss last_state ≡ states_of ss
+  pub append-last : (ss : List (State M G)) → append_states ss last_state ≡ states_of ss
   append-last [] = refl
   append-last (x ∷ ss) = ap (state_then x) (append-last ss)
 
@@ -73,16 +73,16 @@ module _ {M G : Type 0} where
       ∙ ap (λ (s : List Send). let b : Below M G = record { states = now; sends = s; marks = marks; end = end } in b) q
       ∙ ap (λ (s : List Mark). let b : Below M G = record { states = now; sends = sent; marks = s; end = end } in b) r
 
-  joined-then : (kids : List (State M G)) (sends : List Send) (marks : List Mark) (run : Run M G) (below : Below M G)
+  pub joined-then : (kids : List (State M G)) (sends : List Send) (marks : List Mark) (run : Run M G) (below : Below M G)
       → joined kids sends marks (run_then run below) ≡ joined (kids ++ run.state ∷ []) (sends ++ run.sends) (marks ++ run.marks) below
   joined-then kids sends marks run below =
       below-is (append_states kids (state_then run.state below.states)) (append_states (kids ++ run.state ∷ []) below.states) (sends ++ (run.sends ++ below.sends)) ((sends ++ run.sends) ++ below.sends)
       (marks ++ (run.marks ++ below.marks)) ((marks ++ run.marks) ++ below.marks) below.end
       (append-push kids run.state below.states) (sym (append_assoc sends run.sends below.sends)) (sym (append_assoc marks run.marks below.marks))
 
-  ended-then : (run : Run M G) (states : States M G) (end : End) → run_beside run states (Some end) ≡ run_then run (record (still states) { end = Some end })
+  pub ended-then : (run : Run M G) (states : States M G) (end : Option End) → run_beside run states end ≡ run_then run (record (still states) { end = end })
   ended-then run states end =
-      below-is (state_then run.state states) (state_then run.state states) run.sends (run.sends ++ []) run.marks (run.marks ++ []) (Some end) refl (sym (append-nil run.sends)) (sym (append-nil run.marks))
+      below-is (state_then run.state states) (state_then run.state states) run.sends (run.sends ++ []) run.marks (run.marks ++ []) end refl (sym (append-nil run.sends)) (sym (append-nil run.marks))
 
   pub nodes-drop : (ts : List (Plan M G)) (i : ℕ) (d : Plan M G) → i < length ts → plans_of (drop i ts) ≡ plan_then (get_or ts i d) (plans_of (drop (i + 1) ts))
   nodes-drop ts i d less = rw (add-one, drop-cons ts i d less) refl
@@ -97,7 +97,7 @@ module _ {M G : Type 0} (kinds : Kinds M G) where
   started-next : (run : Run M G) (number : ℕ) (ps : Plans M G) (call : ℕ) (asked : List Mapped) (lim : Limits) (merges : List G) (moment : ℕ) (ends : List (Option End)) (over : Option End)
       → sub_started run ps (start_subs kinds number ps call asked lim merges moment ends) over ≡ run_then run (subs_left kinds over number ps call asked lim merges moment ends)
   started-next run number ps call asked lim merges moment ends None = refl
-  started-next run number ps call asked lim merges moment ends (Some end) = ended-then run (waiting_states ps) end
+  started-next run number ps call asked lim merges moment ends (Some end) = ended-then run (waiting_states ps) (Some end)
 
   left-next : (o : Option End) (number : ℕ) (p : Plan M G) (ps : Plans M G) (call : ℕ) (asked : List Mapped) (lim : Limits) (merges : List G) (moment : ℕ) (ends : List (Option End))
       → let run = sub_run kinds (is_none o) number p call (first_ask asked) moment in

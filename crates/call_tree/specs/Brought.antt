@@ -1,11 +1,12 @@
 -- What an event brings the nodes on its way: this project's own choice.
-use Rattle.std.specs.Prelude.{ℕ, ◌+◌, ◌==◌, nat_lt, List, [], ◌∷◌, ◌++◌, Option, None, Some, if◌then◌else◌}
+use Rattle.std.specs.Prelude.{ℕ, zero, suc, ◌+◌, ◌==◌, nat_lt, List, [], ◌∷◌, ◌++◌, Option, None, Some, if◌then◌else◌}
 use Rattle.rpc_model.specs.declared.event.End.{End}
 use Rattle.rpc_model.specs.declared.event.Event.{Event}
 use Rattle.rpc_model.specs.Kinds.{Kinds}
+use Rattle.rpc_model.specs.Plan.{Plan}
 use Rattle.rpc_model.specs.Versions.{nodes}
 use Rattle.rpc_model.specs.Selective.{next_try}
-use Rattle.rpc_model.specs.State.{State, waits, leaf_state, par_state, sel_state, States, last_state, state_then, end_of, size}
+use Rattle.rpc_model.specs.State.{State, waits, leaf_state, par_state, sel_state, States, last_state, state_then, Below, end_of, size, still}
 use Rattle.rpc_model.specs.Machine.{node_of, new_end, is_left, start_at, step_at}
 
 -- the end that it brings a node, and the tries behind that node that start then
@@ -60,3 +61,32 @@ module _ {M G : Type 0} (kinds : Kinds M G) where
         if nat_lt (node_of event) (node + size state)
         then brought_at node state call event moment ++ record { end = end; started = behind_try states end (started_tries (node + size state) states call request moment) } ∷ []
         else brought_tries (node + size state) states call event moment request
+
+module _ {M G : Type 0} where
+  -- what follows the end of a try, where these tries are left and this is what their start comes to
+  abbrev pub followed_end : Option End → States M G → Below M G → Below M G
+  followed_end None rest next = next
+  followed_end (Some up) rest next = record (still rest) { end = Some up }
+
+  abbrev pub followed : Option End → States M G → Below M G → Below M G
+  followed None rest next = still rest
+  followed (Some end) rest next = followed_end (next_try (is_left rest) end) rest next
+
+  -- these states stand over the first of those
+  abbrev pub put_all : List (State M G) → List (State M G) → List (State M G)
+  put_all [] states = states
+  put_all (t ∷ ts) [] = []
+  put_all (t ∷ ts) (s ∷ states) = t ∷ put_all ts states
+
+  -- the same from this place on
+  abbrev pub put_from : ℕ → List (State M G) → List (State M G) → List (State M G)
+  put_from zero ts states = put_all ts states
+  put_from (suc at) ts [] = []
+  put_from (suc at) ts (s ∷ states) = s ∷ put_from at ts states
+
+  -- the plan of a state that wasn't started
+  abbrev pub plan_waiting : State M G → Option (Plan M G)
+  plan_waiting (waits plan) = Some plan
+  plan_waiting (leaf_state chan request leaf) = None
+  plan_waiting (par_state par states) = None
+  plan_waiting (sel_state sel states) = None

@@ -12,3 +12,5 @@ pub mod Folding
 pub mod Starting
 pub mod Brought
 pub mod Judging
+pub mod Timed
+pub mod Logs

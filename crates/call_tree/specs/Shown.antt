@@ -45,9 +45,8 @@ module _ {M G : Type 0} where
     pub bads : p.counts.bads ≡ bads (spec.ends_of (states_of p.kids.items))
     pub places : p.firsts.items ≡ firsts 1 (states_of p.kids.items)
 
-  -- the places are those where the tries begin; no selective node starts so far
+  -- the places are those where the tries begin
   pub record IsSelNode (p : SelNode M G) : Type 0 where
-    pub never : ⊥
     pub places : p.firsts.items ≡ firsts 1 (states_of p.kids.items)
 
   abbrev pub IsSound : Node M G → Type 0

@@ -4,12 +4,14 @@ use Rattle.rpc_model.specs.declared.event.End.{End}
 use Rattle.rpc_model.specs.declared.mapper.Mapped.{Mapped}
 use Rattle.rpc_model.specs.declared.mapper.Mapped.TheVariants as answer
 use Rattle.rpc_model.specs.Kinds.{Kinds}
-use Rattle.rpc_model.specs.Plan.{Plan, Plans}
+use Rattle.rpc_model.specs.Plan.{Plan, Plans, last_plan, plan_then}
+use Rattle.rpc_model.specs.Selective.{next_try}
 use Rattle.rpc_model.specs.Parallel.{Limits, judged}
 use Rattle.rpc_model.specs.State.{State, waits, States, state_then, Run, Below, waiting_states, quiet, still}
-use Rattle.rpc_model.specs.Machine.{where_ended, start_at, start_subs}
+use Rattle.rpc_model.specs.Machine.{where_ended, start_at, start_subs, start_tries}
 use Rattle.rpc_model.specs.Effects.{Send, Mark}
 use Rattle.call_tree.specs.declared.nodes.ParNode.{ParNode}
+use Rattle.call_tree.specs.declared.nodes.SelNode.{SelNode}
 use Rattle.call_tree.specs.declared.outbox.Outbox.{Outbox}
 use Rattle.call_tree.specs.Growing.{IsGrown}
 use Rattle.call_tree.specs.Shown.{states_of}
@@ -57,3 +59,39 @@ module _ {M G : Type 0} (kinds : Kinds M G) where
   abbrev pub subs_left : Option End → ℕ → Plans M G → ℕ → List Mapped → Limits → List G → ℕ → List (Option End) → Below M G
   subs_left None node plans call asked lim merges moment ends = start_subs kinds node plans call asked lim merges moment ends
   subs_left (Some end) node plans call asked lim merges moment ends = record (still (waiting_states plans)) { end = Some end }
+
+-- whether the next try starts, and the node's end, where the last one has this end or none and others are left or not
+abbrev pub after_end : Option End → Bool × Option End
+after_end None = (true, None)
+after_end (Some up) = (false, Some up)
+
+abbrev pub after_try : Bool → Option End → Bool × Option End
+after_try is_left None = (false, None)
+after_try is_left (Some end) = after_end (next_try is_left end)
+
+-- the same, where tries may not start any more and the node has this end or none
+abbrev pub tried : Bool → Option End → Bool → Option End → Bool × Option End
+tried true over is_left end = after_try is_left end
+tried false over is_left end = (false, over)
+
+-- the request of the next try
+abbrev pub ask_while : Bool → List ℕ → Option (List ℕ)
+ask_while true request = Some request
+ask_while false request = None
+
+abbrev pub are_left : {M G : Type 0} → Plans M G → Bool
+are_left last_plan = false
+are_left (plan_then plan plans) = true
+
+module _ {M G : Type 0} (kinds : Kinds M G) where
+  -- the tries that are left start, where they may, and else they wait and the node has this end or none
+  abbrev pub tries_left : Bool → Option End → ℕ → Plans M G → ℕ → List ℕ → ℕ → Below M G
+  tries_left true over node plans call request moment = start_tries kinds node plans call request moment
+  tries_left false over node plans call request moment = record (still (waiting_states plans)) { end = over }
+
+module _ {M G : Type 0} where
+  -- a selective node has the tries and the end of this run, and this went out on it
+  pub record AreStarted (sel : SelNode M G) (old now : Outbox) (below : Below M G) : Type 0 where
+    pub tries_are : states_of sel.kids.items ≡ below.states
+    pub end_is : sel.end ≡ below.end
+    pub grown : IsGrown old now below.sends below.marks

@@ -8,6 +8,7 @@ ghost use Rattle.call_tree.specs.Growing.{IsGrown};
 ghost use Rattle.call_tree.specs.Running.{kinds_of};
 
 use crate::below::Below;
+use crate::following::{follow, timed_out};
 use crate::happening::{is_deadline, node_of};
 use crate::nodes::{Node, Tree};
 use crate::outbox::Outbox;
@@ -67,7 +68,36 @@ impl<M: Mapper + Copy, G: Merger + Copy> Tree<M, G> {
                 })?;
                 return Ok(over);
             }
-            Node::Sel(_) => return Err(NoMemory),
+            Node::Sel(sel) => {
+                if sel.end.is_some() {
+                    return Ok(None);
+                }
+                if node_of(event) == node {
+                    return Ok(timed_out(event));
+                }
+                let (place, begin) = sel.try_at(node, node_of(event));
+                let brought = sel.kids[place].decide(
+                    alloc, begin, call, event, moment, belows, out,
+                )?;
+                let next = sel.number_behind(node, place);
+                let mut started = Vec::new(alloc);
+                let up = follow(
+                    alloc,
+                    sel,
+                    place,
+                    brought.as_ref(),
+                    next,
+                    call,
+                    moment,
+                    &mut started,
+                    out,
+                )?;
+                belows.push(Below {
+                    end: brought,
+                    started,
+                })?;
+                return Ok(up);
+            }
         }
     }
 }

@@ -8,17 +8,21 @@ mod counts;
 mod deciding;
 mod effects;
 mod folding;
+mod following;
 mod happening;
+mod laws;
 mod leaf_node;
 mod nodes;
 mod outbox;
 mod par_node;
+mod sel_node;
 mod starting;
 mod stepping;
 mod taking;
 
 pub use call::Call;
 pub use effects::Effects;
+pub use laws::calls_are_the_machines_of_their_logs;
 pub use rpc_model::{MarkAt, Send};
 
 #[cfg(test)]

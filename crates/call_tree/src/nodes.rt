@@ -3,6 +3,7 @@
 ghost use Rattle.std.specs.Prelude.{◌≡◌, ℕ, None};
 ghost use Rattle.std.specs.Option.{option_map};
 ghost use Rattle.rpc_model.specs.State as spec;
+ghost use Rattle.call_tree.specs.Brought.{plan_waiting};
 
 use crate::counts::Counts;
 use call_leaf::Leaf;
@@ -92,6 +93,20 @@ impl<M, G> Tree<M, G> {
             Node::Leaf(leaf) => leaf.end.as_ref(),
             Node::Par(par) => par.end.as_ref(),
             Node::Sel(sel) => sel.end.as_ref(),
+        }
+    }
+}
+
+impl<M, G> Tree<M, G> {
+    /// Its plan, where it wasn't started.
+    pub(crate) fn plan(&self) -> Option<&PlanTree<M, G>>
+        ensures { option_map (λ p. p.now) result ≡ plan_waiting self.now }
+    {
+        match &self.node {
+            Node::Waits(plan) => Some(plan),
+            Node::Leaf(_) => None,
+            Node::Par(_) => None,
+            Node::Sel(_) => None,
         }
     }
 }

@@ -1,8 +1,8 @@
 //! Nodes that start.
 
-ghost use Rattle.std.specs.Prelude.{◌≡◌, ℕ, ◌+◌, ◌^◌, ◌<◌, length, [], IfOk, OnOk};
+ghost use Rattle.std.specs.Prelude.{◌≡◌, ℕ, ◌+◌, ◌^◌, ◌<◌, length, [], true, None, IfOk, OnOk};
 ghost use Rattle.chan_tree.specs.Shown.{rule_of, plans_of};
-ghost use Rattle.rpc_model.specs.Plan.{par_plan};
+ghost use Rattle.rpc_model.specs.Plan.{par_plan, sel_plan};
 ghost use Rattle.rpc_model.specs.Versions as versions;
 ghost use Rattle.rpc_model.specs.Parallel.{limits, refused};
 ghost use Rattle.rpc_model.specs.State as state;
@@ -10,13 +10,14 @@ ghost use Rattle.rpc_model.specs.Machine as spec;
 ghost use Rattle.call_tree.specs.Counts.{limits_of};
 ghost use Rattle.call_tree.specs.Growing.{IsGrown};
 ghost use Rattle.call_tree.specs.Running.{kinds_of};
-ghost use Rattle.call_tree.specs.Shown.{state_of, states_of, IsParNode};
-ghost use Rattle.call_tree.specs.Starting.{sub_run, subs_left, IsStarted};
+ghost use Rattle.call_tree.specs.Shown.{state_of, states_of, IsParNode, IsSelNode};
+ghost use Rattle.call_tree.specs.Starting.{sub_run, subs_left, tries_left, IsStarted, AreStarted};
 ghost use Rattle.call_tree.specs.declared.nodes.Node.TheVariants as node_word;
 
 use crate::asking::{counts_of, next_ask, refusal};
-use crate::nodes::{LeafNode, Node, ParNode, Tree};
+use crate::nodes::{LeafNode, Node, ParNode, SelNode, Tree};
 use crate::outbox::Outbox;
+use crate::sel_node::{ask_while, tried};
 use chan_tree::{PlanNode, PlanTree, Rule};
 use fan_out::ask_all;
 use rpc_base::{Bytes, List, NoMemory};
@@ -61,7 +62,21 @@ pub(crate) fn start<M: Mapper + Copy, G: Merger + Copy>(
                 node: Node::Par(par),
             })
         }
-        PlanNode::Sel(_, _) => Err(NoMemory),
+        PlanNode::Sel(timeout, plans) => {
+            let sel = start_sel(
+                alloc,
+                *timeout,
+                plans.as_slice(),
+                request,
+                node,
+                call,
+                moment,
+                out,
+            )?;
+            Ok(Tree {
+                node: Node::Sel(sel),
+            })
+        }
     }
 }
 
@@ -152,6 +167,72 @@ fn start_subs<M: Mapper + Copy, G: Merger + Copy>(
             out,
         )?;
         par.add(tree, number - node, alloc)?;
+        number += plan.nodes();
+    }
+    Ok(())
+}
+
+/// A selective node starts with this request, under this number: its first try starts, and the next one where that ends at
+/// its start and doesn't end the node; the others wait.
+#[cycle(start)]
+fn start_sel<M: Mapper + Copy, G: Merger + Copy>(
+    alloc: Global,
+    timeout: Option<u32>,
+    plans: &[PlanTree<M, G>],
+    request: Bytes,
+    node: u32,
+    call: u32,
+    moment: u64,
+    out: &mut Outbox,
+) -> Result<SelNode<M, G>, NoMemory>
+    requires few { node + (1 + versions.nodes_of (plans_of plans.now)) < 2 ^ 31 }
+    requires early { moment < 2 ^ 60 }
+    ensures sound { IfOk result (λ sel. IsSelNode sel) }
+    ensures node { IfOk result (λ sel. state_of (node_word.Sel sel) ≡ (spec.start_at (kinds_of M.answer G.answer) node (sel_plan timeout (plans_of plans.now)) call request moment).state) }
+    ensures grown { OnOk result (let run = spec.start_at (kinds_of M.answer G.answer) node (sel_plan timeout (plans_of plans.now)) call request moment in IsGrown out.old out.new run.sends run.marks) }
+{
+    out.mark(timeout, node, moment, false)?;
+    let mut sel = SelNode {
+        request,
+        end: None,
+        firsts: Vec::new(alloc),
+        kids: Vec::new(alloc),
+    };
+    start_tries(alloc, plans, &mut sel, node, call, moment, out)?;
+    Ok(sel)
+}
+
+/// The tries of a selective node start in order, as far as they do, and the others wait.
+#[cycle(start)]
+fn start_tries<M: Mapper + Copy, G: Merger + Copy>(
+    alloc: Global,
+    plans: &[PlanTree<M, G>],
+    sel: &mut SelNode<M, G>,
+    node: u32,
+    call: u32,
+    moment: u64,
+    out: &mut Outbox,
+) -> Result<(), NoMemory>
+    requires sound { IsSelNode sel.old }
+    requires open { sel.old.end ≡ None }
+    requires none { sel.old.kids.items ≡ [] }
+    requires few { node + (1 + versions.nodes_of (plans_of plans.now)) < 2 ^ 31 }
+    requires early { moment < 2 ^ 60 }
+    ensures sound { OnOk result (IsSelNode sel.new) }
+    ensures request { OnOk result (sel.new.request ≡ sel.old.request) }
+    ensures started { OnOk result (AreStarted sel.new out.old out.new (tries_left (kinds_of M.answer G.answer) true sel.old.end (node + 1) (plans_of plans.now) call sel.old.request moment)) }
+{
+    let mut going = true;
+    let mut number = node + 1;
+    let mut left = plans.len();
+    for plan in plans {
+        left -= 1;
+        let request = ask_while(alloc, going, sel.request.list())?;
+        let tree = start_sub(alloc, plan, true, request, number, call, moment, out)?;
+        let (goes, over) = tried(alloc, going, sel.end.take(), left > 0, tree.end())?;
+        sel.add(tree, number - node)?;
+        going = goes;
+        sel.end = over;
         number += plan.nodes();
     }
     Ok(())

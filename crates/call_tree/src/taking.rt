@@ -7,6 +7,7 @@ ghost use Rattle.call_tree.specs.Brought.{brought_at};
 ghost use Rattle.call_tree.specs.Running.{kinds_of};
 
 use crate::below::{Below, pop_below};
+use crate::following::put;
 use crate::happening::node_of;
 use crate::nodes::{Node, Tree};
 use rpc_model::{ECANCELED, End, Event, Mapper, Merger};
@@ -53,7 +54,21 @@ impl<M: Mapper + Copy, G: Merger + Copy> Tree<M, G> {
                 par.end = end;
                 return;
             }
-            Node::Sel(_) => unreachable!(),
+            Node::Sel(sel) => {
+                if sel.end.is_some() {
+                    return;
+                }
+                if node_of(event) == node {
+                    sel.end = end;
+                    return;
+                }
+                let (place, begin) = sel.try_at(node, node_of(event));
+                let last = pop_below(belows);
+                sel.kids[place].take(begin, event, last.end, belows);
+                put(&mut sel.kids, place + 1, last.started);
+                sel.end = end;
+                return;
+            }
         }
     }
 }

@@ -1,7 +1,7 @@
 use super::*;
 use chan_tree::{are_sound, plan};
 use rpc_base::{Bytes, List};
-use rpc_model::{Chan, End, Event, LeafChan, MapKind, MergeKind, Origin, ParChan, Sub};
+use rpc_model::{Chan, End, Event, LeafChan, MapKind, MergeKind, Origin, ParChan, SelChan, Sub};
 use std::alloc::{AllocError, Global};
 use std::process::Abort;
 use std::sync::Arc;
@@ -77,6 +77,14 @@ fn par(alloc: Global, subs: &[(MapKind, u32)], fail: u32) -> Result<Kinds, Alloc
     }))
 }
 
+fn sel(alloc: Global, retry: u32) -> Result<Kinds, AllocError> {
+    Ok(Chan::Sel(SelChan {
+        subs: List::of(Vec::from_slice(alloc, &[0])?),
+        retry,
+        timeout: Some(300),
+    }))
+}
+
 fn expect_send(rt: &impl Abort, send: &Send, wanted: Sent) {
     let (node, attempt, server, last) = wanted;
     assert_eq!(rt; send.node, node);
@@ -133,7 +141,15 @@ fn expect(
             None => expect_sends(rt, &effects, &[]),
             Some(sent) => expect_sends(rt, &effects, &[*sent]),
         }
-        expect_marks(rt, &effects, &[]);
+        match sent {
+            // A leaf that starts sets its marks.
+            Some((node, 0, _, _)) => expect_marks(
+                rt,
+                &effects,
+                &[(*moment + 500, *node, false), (*moment + 100, *node, true)],
+            ),
+            _ => expect_marks(rt, &effects, &[]),
+        }
         assert_eq!(rt; effects.ended, *ended);
         assert_eq!(rt; running.end().is_some(), *ended);
     }
@@ -275,4 +291,44 @@ fn calls_that_end_early(rt: HostRuntime) -> Result<(), Fail> {
         End::Bad(125),
         1,
     )
+}
+
+/// A selective call with this many tries behind the first.
+fn expect_tries(
+    rt: &impl Abort,
+    alloc: Global,
+    retry: u32,
+    rows: &[Row],
+    end: End,
+    attempts: u32,
+) -> Result<(), Fail> {
+    let mut chans = Vec::new(alloc);
+    chans.push(leaf(alloc, 0)?)?;
+    chans.push(sel(alloc, retry)?)?;
+    let sends = [(1, 0, 7, None)];
+    let marks = [(310, 0, false), (510, 1, false), (110, 1, true)];
+    expect(rt, alloc, &chans, 2, &sends, &marks, rows, end, attempts)
+}
+
+#[test]
+fn selective_calls(rt: HostRuntime) -> Result<(), Fail> {
+    let alloc = rt.alloc();
+    let tried = [
+        (20, What::Lost(2, 0, 1009), None, false),
+        (30, What::Lost(1, 0, 1009), Some((2, 0, 7, None)), false),
+        (40, What::Reply(1, 0, 0, b'l'), None, false),
+        (50, What::Reply(2, 0, 0, b'o'), None, true),
+        (310, What::Deadline(0), None, true),
+    ];
+    let second = End::Good(bytes(alloc, "o")?);
+    expect_tries(&rt, alloc, 1, &tried, second, 2)?;
+    let last = [
+        (30, What::Lost(1, 0, 1009), Some((2, 0, 7, None)), false),
+        (40, What::Lost(2, 0, 1009), None, true),
+    ];
+    expect_tries(&rt, alloc, 1, &last, End::Bad(1009), 2)?;
+    let refused = [(30, What::Reply(1, 0, 1003, b'r'), None, true)];
+    expect_tries(&rt, alloc, 1, &refused, End::Bad(1003), 1)?;
+    let late = [(310, What::Deadline(0), None, true)];
+    expect_tries(&rt, alloc, 1, &late, End::Bad(1008), 1)
 }
