@@ -18,6 +18,7 @@ use Rattle.rpc_model.specs.declared.event.End.TheVariants.{{Good, Bad}}
 use Rattle.rpc_model.specs.declared.told.Told.{{Told}}
 use Rattle.rpc_model.specs.declared.told.Told.TheVariants.{{Ended, Unended, Full, Gone}}
 use Rattle.rpc_model.specs.Codes.{{retriable}}
+use Rattle.rpc_model.specs.declared.script.Mode.TheVariants.{{Sim}}
 use Rattle.{crate}.specs.declared.chan.Chan.{{Chan}}
 use Rattle.{crate}.specs.declared.chan.Chan.TheVariants as chan
 use Rattle.{crate}.specs.declared.chan.Sub.{{Sub}}
@@ -29,7 +30,7 @@ use Rattle.{crate}.specs.declared.kinds.MergeKind.TheVariants as merge
 use Rattle.{crate}.specs.Told.{{told, tells, after}}
 
 abbrev runs : ℕ → List (Chan MapKind MergeKind) → List Act → List Told
-runs slots chans acts = told (record {{ slots = slots; chans = chans; acts = acts }})
+runs slots chans acts = told (record {{ mode = Sim; slots = slots; servers = 16; chans = chans; serves = []; acts = acts }})
 
 abbrev leaf : List ℕ → ℕ → Option ℕ → Option ℕ → Chan MapKind MergeKind
 leaf servers retry backup timeout = chan.Leaf (record {{ servers = servers; retry = retry; backup = backup; timeout = timeout }})
