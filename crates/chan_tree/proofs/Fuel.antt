@@ -88,7 +88,7 @@ module _ {M G : Type 0} where
   missing-looks call n f g (Some (chan.Sel sel)) h same = missing-same n f g (tries sel call) (sel-before n call sel h) same
   missing-looks call n f g (Some (chan.Part part)) h same = refl
 
-  plan-looks : (call n : ℕ) (f g : ℕ → Option (Plan M G)) (c : Option (Chan M G)) → SoundIf n c → Agree n f g → chan_plan f call c ≡ chan_plan g call c
+  pub plan-looks : (call n : ℕ) (f g : ℕ → Option (Plan M G)) (c : Option (Chan M G)) → SoundIf n c → Agree n f g → chan_plan f call c ≡ chan_plan g call c
   plan-looks call n f g None h same = refl
   plan-looks call n f g (Some (chan.Leaf leaf)) h same = refl
   plan-looks call n f g (Some (chan.Par par)) h same = ap (par_over (rule_of par)) (plans-same n f g (subs_of par) h same)

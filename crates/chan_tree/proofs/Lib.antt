@@ -8,3 +8,6 @@ mod Rising
 pub mod Tables
 pub mod Offsets
 pub mod Judged
+pub mod Sizes
+pub mod Issued
+pub mod Grown

@@ -3,6 +3,7 @@ pub mod Shown
 pub mod Falls
 pub mod Sound
 pub mod Counting
+pub mod Sizes
 pub mod Measures
 pub mod Table
 pub mod Tabled

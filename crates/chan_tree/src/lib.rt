@@ -10,6 +10,7 @@ mod plans;
 mod sound;
 mod table;
 mod tree;
+mod walking;
 
 pub use measuring::Measure;
 pub use places::last_up_to;
@@ -18,6 +19,7 @@ pub use plans::Plan;
 pub use rpc_model::{Chan, ParChan, PartChan, SelChan, Sub, Tag};
 pub use sound::are_sound;
 pub use tree::{PlanNode, PlanTree, Rule, leaf_copy};
+pub use walking::{Size, retry_at, size_of};
 
 #[cfg(test)]
 mod tests;
