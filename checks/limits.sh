@@ -56,6 +56,26 @@ weigh() {
 expect 'the greatest weight' "$(printf '2000 full\nstatus 0')" < <(weigh 6861)
 expect 'a weight of one byte more' "$(refused 1066 TooMuch)" < <(weigh 6862)
 
+# Channels: depth 8 and 9 by each kind, and over subs that no call tries; widths of 1,024 and 1,025; a refusal of a width
+# that no number of a machine holds.
+nested() { echo 'leaf c1 a retry=0 backup=-1 timeout=-1'; seq 2 "$2" | while read -r n; do
+    case $1 in par) echo "par c$n fail=0 ok=0 timeout=-1 c$((n - 1)):same:cat" ;; sel) echo "sel c$n retry=0 timeout=-1 c1 c$((n - 1))" ;; esac
+done; }
+on_part() { echo 'part c2 1 retry=0 backup=-1 fail=0 ok=0 timeout=-1 same:cat a:0/1'; nested par "$1" | sed '1,2d'; }
+expect 'parallel channels 8 deep' "$(printf '1 ok 1 abc\nstatus 0')" < <({ nested par 8; echo 'at 0 call 1 c8 q'; echo 'at 1 reply 1 7#0 0 abc'; echo 'join 1'; })
+expect 'parallel channels 9 deep' "$(refused 9 TooDeep)" < <(nested par 9)
+expect 'selective channels 8 deep' "$(printf '2 ok 1 abc\nstatus 0')" < <({ nested sel 8; echo 'at 0 call 2 c8 q'; echo 'at 1 reply 2 1#0 0 abc'; echo 'join 2'; })
+expect 'selective channels 9 deep' "$(refused 9 TooDeep)" < <(nested sel 9)
+expect 'a partition channel 8 deep' 'status 0' < <(on_part 8)
+expect 'a partition channel 9 deep' "$(refused 8 TooDeep)" < <(on_part 9)
+wide() { echo 'leaf x a retry=99 backup=-1 timeout=-1'; echo "leaf y a retry=$1 backup=-1 timeout=-1"; echo "par w fail=0 ok=0 timeout=-1 $(for i in 1 2 3 4 5 6 7 8 9 10; do printf 'x:same:cat '; done)y:same:cat"; echo 'at 0 call 1 w q'; }
+expect 'a width of 1,024' "$(printf '1 ok 11 a\nstatus 0')" < <({ wide 11; seq 1 10 | sed 's/.*/at 1 reply 1 &#0 0 -/'; echo 'at 1 reply 1 11#0 0 a'; echo 'join 1'; })
+expect 'a width of 1,025' "$(refused 4 TooWide)" < <(wide 12)
+expect '600 subs' "$(refused 3 TooWide)" < <({ echo 'leaf x a,b retry=1 backup=-1 timeout=500'; echo "par w fail=0 ok=0 timeout=-1$(printf ' x:same:cat%.0s' $(seq 600))"; echo 'at 0 call 1 w q'; })
+huge() { echo 'leaf c1 a retry=100 backup=-1 timeout=-1'; seq 2 8 | while read -r n; do echo "par c$n fail=0 ok=0 timeout=-1$(printf " c$((n - 1)):same:cat%.0s" $(seq 1000))"; done; echo 'at 0 call 1 c8 q'; }
+expect 'a width past 2^64' "$(refused 9 TooWide)" < <(huge)
+expect '1,001 subs' "$(refused 2 BadLine)" < <({ echo "$leaf"; echo "par w fail=0 ok=0 timeout=-1$(printf ' x:same:cat%.0s' $(seq 1001))"; })
+
 # A moment, a deadline and a backup request at their ends.
 expect 'the latest deadline' "$(printf '1 fail 1008 1\nstatus 0')" < <({ echo 'leaf x a retry=1 backup=2147483647 timeout=2147483647'; echo 'at 9007199254740991 call 1 x hi'; echo 'join 1'; })
 

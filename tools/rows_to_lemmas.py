@@ -149,7 +149,7 @@ def rows(path):
         if not any(line.startswith("=> ") for line in lines):
             continue
         end = next(i for i, line in enumerate(lines) if line.startswith("=> "))
-        yield lines[0].lstrip("# "), lines[1:end], lines[end + 1 :]
+        yield lines[0].lstrip("#: "), lines[1:end], lines[end + 1 :]
 
 
 def lemma(number, name, script, answer):

@@ -1,7 +1,10 @@
+pub mod Depths
 pub mod Digits
-pub mod Directed
-pub mod Plain
+pub mod Each
+pub mod Heads
 pub mod Kept
 pub mod Places
 pub mod Said
 pub mod Servers
+pub mod Sized
+pub mod Parts

@@ -19,6 +19,9 @@ mention_grows servers name = by (index_of servers name) refl
     by None e = (simp length-append (omega arith), simp length-append (omega arith))
     by (Some at) e = (omega arith, let below = index_below servers name at e in omega (arith, below))
 
+pub mention_some : (servers : List (List ℕ)) (name : List ℕ) → 1 ≤ length (mention servers name)
+mention_some servers name = (mention_grows servers name).1
+
 -- No server goes.
 pub mention_all_grows : (servers names : List (List ℕ)) → length servers ≤ length (mention_all servers names)
 mention_all_grows servers [] = omega arith

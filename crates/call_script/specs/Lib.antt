@@ -1,3 +1,6 @@
+pub mod Depths
 pub mod Judged
+pub mod Named
 pub mod Places
+pub mod Sized
 pub mod Within

@@ -2,6 +2,8 @@
 #![tactic(auto)]
 
 mod calls;
+mod channel_words;
+mod channels;
 mod cut;
 mod fault;
 mod names;

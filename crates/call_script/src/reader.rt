@@ -2,18 +2,21 @@
 
 ghost use Rattle.std.specs.Prelude.{◌≡◌, ℕ, ◌≤◌};
 ghost use Rattle.rpc_model.specs.Before.{nothing};
-ghost use Rattle.rpc_model.specs.Fits.{Fits, IsOfPlain};
+ghost use Rattle.rpc_model.specs.Fits.{Fits};
 ghost use Rattle.rpc_model.specs.Script.{script_of};
 
 mod call_lines;
 mod channel_lines;
 mod lines;
+mod over_lines;
+mod part_lines;
 mod setting_lines;
 
 use crate::calls::Calls;
+use crate::channels::Channels;
 use crate::names::Names;
 use rpc_base::List;
-use rpc_model::{Act, Chan, DEFAULT_SLOTS, MapKind, MergeKind, Mode, Script, Serve};
+use rpc_model::{Act, DEFAULT_SLOTS, Mode, Script, Serve};
 use std::alloc::Global;
 use std::marker::Model;
 
@@ -26,7 +29,7 @@ pub(crate) struct Reader {
     slots: Option<u32>,
     names: Names,
     servers: Names,
-    chans: Vec<Chan<MapKind, MergeKind>>,
+    chans: Channels,
     serves: Vec<Serve>,
     acts: Vec<Act>,
     calls: Calls,
@@ -41,9 +44,9 @@ impl Model for Reader {
 
     ghost use Rattle.call_script.specs.Within.{IsWithin};
 
-    ghost view = { λ r. record { mode = r.mode; slots = r.slots; names = r.names; servers = r.servers; chans = r.chans.items; serves = r.serves.items; acts = r.acts.items } };
+    ghost view = { λ r. record { mode = r.mode; slots = r.slots; names = r.names; servers = r.servers; chans = r.chans; serves = r.serves.items; acts = r.acts.items } };
 
-    ghost invariant = { λ r. IsWithin r.slots r.names r.servers r.chans.items r.serves.items r.acts.items r.calls r.events r.weight };
+    ghost invariant = { λ r. IsWithin r.slots r.names r.servers r.chans r.serves.items r.acts.items r.calls r.events r.weight };
 }
 
 impl Reader {
@@ -56,7 +59,7 @@ impl Reader {
             slots: None,
             names: Names::new(alloc),
             servers: Names::new(alloc),
-            chans: Vec::new(alloc),
+            chans: Channels::new(alloc),
             serves: Vec::new(alloc),
             acts: Vec::new(alloc),
             calls: Calls::new(alloc),
@@ -70,13 +73,12 @@ impl Reader {
     pub(crate) fn into_script(self) -> Script
         ensures script { result ≡ script_of self }
         ensures fits { Fits result }
-        ensures plain { IsOfPlain result }
     {
         Script {
             mode: self.mode,
             slots: self.slots.unwrap_or(DEFAULT_SLOTS),
             servers: self.servers.len() as u32,
-            chans: List::of(self.chans),
+            chans: List::of(self.chans.into_vec()),
             serves: List::of(self.serves),
             acts: List::of(self.acts),
         }

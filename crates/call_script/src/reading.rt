@@ -2,7 +2,7 @@ ghost use Rattle.std.specs.Prelude.{◌≡◌, ◌==◌, ◌≤◌, length, IfOk
 ghost use Rattle.std.specs.List.{slice_split};
 ghost use Rattle.rpc_model.specs.Script.{script, lines_say};
 ghost use Rattle.rpc_model.specs.Before.{nothing};
-ghost use Rattle.rpc_model.specs.Fits.{Fits, IsOfPlain};
+ghost use Rattle.rpc_model.specs.Fits.{Fits};
 ghost use Rattle.call_script.specs.Judged.{Reads, SaysLines, line_fault_at};
 
 use crate::fault::{LineFault, ScriptFault};
@@ -18,7 +18,6 @@ use std::alloc::Global;
 pub fn read_script(alloc: Global, mode: Mode, bytes: &[u8]) -> Result<Script, ScriptFault>
     ensures script { Reads result (script mode bytes.now) }
     ensures fits { IfOk result Fits }
-    ensures plain { IfOk result IsOfPlain }
 {
     if bytes.len() > SCRIPT_LIMIT {
         return Err(ScriptFault::Bad(0, Cause::TooLong));

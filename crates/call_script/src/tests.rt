@@ -1,5 +1,5 @@
 use super::*;
-use rpc_model::{Cause, Chan, End, Mode, Told};
+use rpc_model::{Cause, Chan, End, MapKind, MergeKind, Mode, Sub, Tag, Told};
 use std::alloc::{AllocError, Global};
 use std::test::Fail;
 
@@ -39,10 +39,21 @@ fn causes(rt: HostRuntime) -> Result<(), Fail> {
         (Mode::Sim, "at 5 reply 1 0#1 65535 ~!", None),
         (Mode::Sim, "# a comment\t", Some(Cause::BadByte)),
         (Mode::Sim, "at 5 tick 1", Some(Cause::BadLine)),
+        (Mode::Sim, "sel s retry=0 timeout=-1 x", None),
         (
             Mode::Sim,
-            "sel s retry=0 timeout=-1 x",
-            Some(Cause::NotBuilt),
+            "par p fail=0 ok=0 timeout=1 x:same:CAT",
+            Some(Cause::BadSub),
+        ),
+        (
+            Mode::Sim,
+            "part q 2 retry=0 backup=-1 fail=0 ok=0 timeout=1 same:cat a:2/2",
+            Some(Cause::BadTag),
+        ),
+        (
+            Mode::Sim,
+            "part q 2 retry=0 backup=-1 fail=0 ok=0 timeout=1 same:cat a:0/2 b:1/3",
+            Some(Cause::MissingPart),
         ),
         (Mode::Live, "at 5 cancel 1", None),
         (Mode::Live, "at 5 tick", Some(Cause::SimOnly)),
@@ -114,6 +125,48 @@ fn typed_channels(rt: HostRuntime) -> Result<(), Fail> {
     Ok(())
 }
 
+/// Channels over others: a parallel one, a selective one, and a partition channel whose tag of another count mentions its
+/// server too.
+#[test]
+fn typed_trees(rt: HostRuntime) -> Result<(), Fail> {
+    let text =
+        "leaf x a retry=0 backup=-1 timeout=-1\npar p fail=0 ok=1 timeout=30 x:index:sum x:skip:drop\nsel s retry=2 timeout=-1 p x\npart q 2 retry=3 backup=4 fail=5 ok=6 timeout=7 split:cat c:1/2 b:0/3 a:0/2\n";
+    let script = read_script(rt.alloc(), Mode::Sim, text.as_bytes())
+        .ok()
+        .ok_or("the script is good")?;
+    assert_eq!(rt; script.servers, 3);
+    let [_, Chan::Par(par), Chan::Sel(sel), Chan::Part(part)] = script.chans.list() else {
+        return Err("there are four channels".into());
+    };
+    let subs = [
+        Sub {
+            map: MapKind::Index,
+            merge: MergeKind::Sum,
+            chan: 0,
+        },
+        Sub {
+            map: MapKind::Skip,
+            merge: MergeKind::Drop,
+            chan: 0,
+        },
+    ];
+    assert_eq!(rt; par.subs.list(), subs.as_slice());
+    assert_eq!(rt; (par.fail, par.ok, par.timeout), (0, 1, Some(30)));
+    assert_eq!(rt; sel.subs.list(), [1, 0].as_slice());
+    assert_eq!(rt; (sel.retry, sel.timeout), (2, None));
+    let tags = [(1, 1, 2), (2, 0, 3), (0, 0, 2)].map(|(server, part, of)| Tag { server, part, of });
+    assert_eq!(rt; part.tags.list(), tags.as_slice());
+    assert_eq!(rt;
+        (part.parts, part.map, part.merge),
+        (2, MapKind::Split, MergeKind::Cat)
+    );
+    assert_eq!(rt;
+        (part.retry, part.backup, part.fail, part.ok, part.timeout),
+        (3, Some(4), 5, 6, Some(7))
+    );
+    Ok(())
+}
+
 /// What servers do, and that a line says it once for each.
 #[test]
 fn directions(rt: HostRuntime) -> Result<(), Fail> {
@@ -179,14 +232,14 @@ fn texts(rt: HostRuntime) -> Result<(), Fail> {
             .ok()
             .ok_or("there is memory")?;
     }
-    write_refusal(alloc, 7, Cause::NotBuilt, &mut text)
+    write_refusal(alloc, 7, Cause::TooDeep, &mut text)
         .ok()
         .ok_or("there is memory")?;
     write_refusal(alloc, 0, Cause::TooLong, &mut text)
         .ok()
         .ok_or("there is memory")?;
     let wanted =
-        "1 ok 2 abc\n4294967295 ok 1 -\n3 fail 1008 1\n4 open\n5 full\n6 gone\nrefused 7 NotBuilt\nrefused 0 TooLong\n";
+        "1 ok 2 abc\n4294967295 ok 1 -\n3 fail 1008 1\n4 open\n5 full\n6 gone\nrefused 7 TooDeep\nrefused 0 TooLong\n";
     assert_eq!(rt; text.as_slice(), wanted.as_bytes());
     Ok(())
 }

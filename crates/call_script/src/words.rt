@@ -43,7 +43,7 @@ fn is_numeral(word: &[u8]) -> bool
 
 /// A number of `low` to `high`, or the cause where the word isn't one.
 #[tactic(auto, unfolding(rpc_model::specs::Words::number_or))]
-fn number_or(cause: Cause, word: &[u8], low: u64, high: u64) -> Result<u64, Cause>
+pub(crate) fn number_or(cause: Cause, word: &[u8], low: u64, high: u64) -> Result<u64, Cause>
     requires { high < 2 ^ 60 }
     ensures value { result ≡ spec.number_or cause low high word.now }
     ensures bound { IfOk result (λ n. n ≤ high) }
@@ -147,7 +147,7 @@ pub(crate) fn wait_option(word: &[u8], key: &[u8]) -> Result<Option<u32>, Cause>
 }
 
 /// Where the byte stands first.
-fn position_of(word: &[u8], byte: u8) -> Option<usize>
+pub(crate) fn position_of(word: &[u8], byte: u8) -> Option<usize>
     ensures value { result ≡ position (λ b. b == byte) word.now }
     ensures bound { IfSome result (λ at. at < length word.now) }
 {

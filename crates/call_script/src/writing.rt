@@ -92,7 +92,6 @@ fn word_of_cause(cause: Cause) -> &'static str
         Cause::LineTooLong => "LineTooLong",
         Cause::BadByte => "BadByte",
         Cause::BadLine => "BadLine",
-        Cause::NotBuilt => "NotBuilt",
         Cause::SimOnly => "SimOnly",
         Cause::LiveOnly => "LiveOnly",
         Cause::BadNumber => "BadNumber",

@@ -1,5 +1,5 @@
 -- One more channel changes none of those before it.
-use Rattle.std.proofs.Common.{◌≡◌, ℕ, zero, suc, ◌+◌, ◌<◌, List, [], ◌∷◌, ◌++◌, length, Option, Some, None, arith, refl, ap, sym, ◌∙◌, slice_get}
+use Rattle.std.proofs.Common.{◌≡◌, ℕ, zero, suc, ◌+◌, ◌<◌, List, [], ◌∷◌, ◌++◌, length, Option, Some, None, arith, refl, ap, sym, ◌∙◌, subst, slice_get}
 use Rattle.rpc_model.specs.declared.chan.Chan.{Chan}
 use Rattle.rpc_model.specs.Plan.{chan_plan, plan_within, plan}
 use Rattle.rpc_model.specs.Faults.{chan_depth, depth_within, depth}
@@ -45,5 +45,8 @@ module _ {M G : Type 0} (chans : List (Chan M G)) (c : Chan M G) (sound : AreSou
 
 -- They stay sound.
 pub more-sound : {M G : Type 0} (first : ℕ) (chans : List (Chan M G)) (c : Chan M G) → AreSound first chans → IsSound (first + length chans) c → AreSound first (chans ++ c ∷ [])
-more-sound first [] c h one = (let same : first + 0 ≡ first = omega arith in Rattle.std.proofs.Common.subst (λ n. IsSound n c) same one, tt)
-more-sound first (d ∷ chans) c h one = (h.0, more-sound (suc first) chans c h.1 (let same : first + suc (length chans) ≡ suc first + length chans = omega arith in Rattle.std.proofs.Common.subst (λ n. IsSound n c) same one))
+more-sound first [] c h one = (let same : first + 0 ≡ first = omega arith in subst (λ n. IsSound n c) same one, tt)
+more-sound first (d ∷ chans) c h one = (h.0, more-sound (suc first) chans c h.1 (let same : first + suc (length chans) ≡ suc first + length chans = omega arith in subst (λ n. IsSound n c) same one))
+
+pub sound-push : {M G : Type 0} (chans : List (Chan M G)) (c : Chan M G) → AreSound 0 chans → IsSound (length chans) c → AreSound 0 (chans ++ c ∷ [])
+sound-push chans c sound one = more-sound 0 chans c sound (let same : length chans ≡ 0 + length chans = omega arith in subst (λ n. IsSound n c) same one)

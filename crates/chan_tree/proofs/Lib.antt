@@ -11,3 +11,4 @@ pub mod Judged
 pub mod Sizes
 pub mod Issued
 pub mod Grown
+pub mod Sounds

@@ -1,5 +1,5 @@
 -- The runs of a call on a plain channel: few attempts, each sent.
-use Rattle.std.proofs.Common.{◌≡◌, ℕ, suc, ◌+◌, ◌≤◌, ◌⊎◌, inl, inr, Bool, true, false, cond, ◌==◌, nat_lt, List, [], ◌∷◌, ◌++◌, fold, None, is_none, arith, refl, ap, sym, subst, ◌∙◌}
+use Rattle.std.proofs.Common.{◌≡◌, ℕ, suc, ◌+◌, ◌≤◌, ◌⊎◌, inl, inr, Bool, true, false, cond, ◌==◌, nat_lt, List, [], ◌∷◌, ◌++◌, fold, is_none, arith, refl, ap, sym, subst, ◌∙◌}
 use Rattle.std.proofs.lemmas.Bool.Decides.{nat_tests}
 use Rattle.std.proofs.lemmas.List.{append-nil}
 use Rattle.rpc_model.specs.declared.chan.LeafChan.{LeafChan}
@@ -12,8 +12,8 @@ use Rattle.rpc_model.specs.Leaf.{Leaf, leaf_step, ended, started}
 use Rattle.rpc_model.specs.LeafLaws.{first_sends}
 use Rattle.rpc_model.specs.Plan.{leaf_plan}
 use Rattle.rpc_model.specs.Effects.{Send, server_of, sent}
-use Rattle.rpc_model.specs.State.{State, leaf_state, Run, quiet, and_then, attempts}
-use Rattle.rpc_model.specs.Machine.{node_of, leaf_run, step, start, machine}
+use Rattle.rpc_model.specs.State.{State, leaf_state, Run, quiet, and_then}
+use Rattle.rpc_model.specs.Machine.{leaf_run, step, start, machine}
 use Rattle.rpc_model.proofs.Issues.{IssuesFew, leaf_step-issues, few-issues, few-bound}
 
 sent-more : (leaf : LeafChan) (call : ℕ) (request : List ℕ) (before now : ℕ) → (now ≡ before) ⊎ (now ≡ before + 1) → first_sends leaf call request before ++ sent leaf call 0 request before now ≡ first_sends leaf call request now

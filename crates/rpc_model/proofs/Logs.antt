@@ -12,7 +12,7 @@ use Rattle.rpc_model.specs.declared.script.Act.TheVariants.{Call, Cancel, Reply,
 use Rattle.rpc_model.specs.declared.told.Told.{Told}
 use Rattle.rpc_model.specs.declared.told.Told.TheVariants.{Ended, Unended}
 use Rattle.rpc_model.specs.Heard.{is_end_of}
-use Rattle.rpc_model.specs.Effects.{Mark, deadline, backup}
+use Rattle.rpc_model.specs.Effects.{Mark}
 use Rattle.rpc_model.specs.Marks.{Begun, begin, apply, marks_left, least_mark, take_mark, mark_event, weave_at_most, weave_least, weave, finish_at_most, finish_least, finish}
 use Rattle.rpc_model.specs.declared.script.Script.{Script}
 use Rattle.rpc_model.specs.Told.{Standing, begun, told_of, Replay, unbegun, number_of, is_call, is_full, change_first, stand_new, call_after, event_after, call_event, stand_joined, joined, join_end, join_tells, after, tells, told_from, told}

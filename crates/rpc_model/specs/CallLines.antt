@@ -1,16 +1,16 @@
 -- The lines of calls and of what comes to them: what each says behind all lines before, or the first cause for which it
 -- is refused. This project's own choice.
-use Rattle.std.specs.Prelude.{ℕ, ◌+◌, Bool, false, ◌==◌, ◌&&◌, nat_lt, nat_le, is_none, is_some, List, [], ◌∷◌, ◌++◌, length, Option, None, Some, Result, Ok}
+use Rattle.std.specs.Prelude.{ℕ, ◌+◌, Bool, false, nat_lt, nat_le, is_none, is_some, List, [], ◌∷◌, ◌++◌, length, Option, None, Some, Result, Ok}
 use Rattle.rpc_model.specs.declared.script.Act.{Act}
 use Rattle.rpc_model.specs.declared.script.Act.TheVariants.{Call, Cancel, Reply, Lose, Tick, Join}
 use Rattle.rpc_model.specs.declared.script.Cause.{Cause}
-use Rattle.rpc_model.specs.declared.script.Cause.TheVariants.{SimOnly, DupCall, NoCall, BadAttempt, TooMany, TooMuch}
-use Rattle.rpc_model.specs.declared.limits.TheConstants.{MOMENT_LIMIT, CALL_NUMBER_LIMIT, CODE_LIMIT, EVENT_LIMIT}
+use Rattle.rpc_model.specs.declared.script.Cause.TheVariants.{SimOnly, DupCall, NoCall, BadAttempt, TooWide, TooMany, TooMuch}
+use Rattle.rpc_model.specs.declared.limits.TheConstants.{MOMENT_LIMIT, CALL_NUMBER_LIMIT, CODE_LIMIT, EVENT_LIMIT, WIDTH_LIMIT}
 use Rattle.rpc_model.specs.declared.kinds.MapKind.{MapKind}
 use Rattle.rpc_model.specs.declared.kinds.MergeKind.{MergeKind}
 use Rattle.rpc_model.specs.declared.meaning.Meaning.TheVariants.{Attempt}
 use Rattle.rpc_model.specs.Plan.{Plan, plan}
-use Rattle.rpc_model.specs.Versions.{offset_of}
+use Rattle.rpc_model.specs.Versions.{offset_of, width}
 use Rattle.rpc_model.specs.Words.{◌>>=◌, demand, found_or, number, known_name, text, attempt_word}
 use Rattle.rpc_model.specs.Before.{Before, is_sim, calls_of, chan_of, event_count, call_limit, call_weight, total_weight, weight_limit}
 
@@ -44,9 +44,15 @@ known_call before word = do
   chan ← found_or NoCall (chan_of before.acts c)
   Ok (c, chan)
 
--- one more call, where there is room
+-- the plan has few enough versions for a range of ids
+abbrev pub is_narrow : Option (Plan MapKind MergeKind) → Bool
+is_narrow None = false
+is_narrow (Some p) = nat_le (width p) WIDTH_LIMIT
+
+-- one more call, where its plan isn't too wide and there is room
 abbrev pub with_call : Before → ℕ → ℕ → ℕ → List ℕ → Result Before Cause
 with_call before moment call chan payload = do
+  _ ← demand (is_narrow (plan before.chans chan call)) TooWide
   _ ← demand (nat_lt (length (calls_of before.acts)) (call_limit before.mode)) TooMany
   _ ← demand (nat_le (total_weight before.chans before.acts + call_weight before.chans chan call payload) (weight_limit before.mode)) TooMuch
   Ok (with_act before (Call moment call chan payload))

@@ -66,16 +66,6 @@ module _ {M G : Type 0} where
   IsNarrow None = Unit {0}
   IsNarrow (Some plan) = width plan ≤ 1024
 
--- a plain channel, which is all that lines say so far
-abbrev pub IsPlain : ℕ → Chan MapKind MergeKind → Type 0
-IsPlain servers (chan.Leaf leaf) = IsLeaf servers leaf
-IsPlain servers (chan.Par par) = ⊥
-IsPlain servers (chan.Sel sel) = ⊥
-IsPlain servers (chan.Part part) = ⊥
-
-abbrev pub IsOfPlain : Script → Type 0
-IsOfPlain script = All (IsPlain script.servers) script.chans
-
 -- the plan of a call that begins is narrow enough for a range of ids
 abbrev pub BeginsNarrow : List (Chan MapKind MergeKind) → Act → Type 0
 BeginsNarrow chans (Call at call chan text) = IsNarrow (plan chans chan call)

@@ -15,6 +15,7 @@ pub mod Text
 pub mod Words
 pub mod Before
 pub mod SettingLines
+pub mod ChannelWords
 pub mod ChannelLines
 pub mod CallLines
 pub mod Lines

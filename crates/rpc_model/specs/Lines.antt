@@ -1,14 +1,14 @@
 -- What each line of a script says behind all lines before, or the first cause for which it is refused. This project's
 -- own choice.
-use Rattle.std.specs.Prelude.{ℕ, ◌+◌, Bool, true, false, ◌==◌, ◌&&◌, ◌||◌, not, nat_le, List, [], ◌∷◌, length, Result, Ok, Err, codes, bytes_eq, if◌then◌else◌}
+use Rattle.std.specs.Prelude.{ℕ, ◌+◌, Bool, true, false, ◌==◌, ◌&&◌, not, nat_le, nat_lt, List, [], ◌∷◌, length, take, drop, Result, Ok, Err, codes, bytes_eq, if◌then◌else◌}
 use Rattle.std.specs.List.{slice_split, list_all}
 use Rattle.rpc_model.specs.declared.script.Cause.{Cause}
-use Rattle.rpc_model.specs.declared.script.Cause.TheVariants.{LineTooLong, BadByte, BadLine, NotBuilt}
+use Rattle.rpc_model.specs.declared.script.Cause.TheVariants.{LineTooLong, BadByte, BadLine}
 use Rattle.rpc_model.specs.declared.limits.TheConstants.{LINE_LIMIT, SUB_LIMIT}
 use Rattle.rpc_model.specs.Words.{◌>>=◌, demand, all_within}
 use Rattle.rpc_model.specs.Before.{Before}
 use Rattle.rpc_model.specs.SettingLines.{open_line, serve_line}
-use Rattle.rpc_model.specs.ChannelLines.{leaf_line}
+use Rattle.rpc_model.specs.ChannelLines.{leaf_line, par_line, sel_line, part_line}
 use Rattle.rpc_model.specs.CallLines.{call_line, reply_line, lose_line, cancel_line, tick_line, join_line}
 
 -- a line of two words, and so on
@@ -35,44 +35,60 @@ abbrev pub seven_words : Before → List ℕ → List ℕ → List ℕ → List 
 seven_words before kind at what call attempt code words =
     if bytes_eq kind (codes "at") && bytes_eq what (codes "reply") then reply_line before at call attempt code words else Err BadLine
 
--- a line of a kind that is built
-unfoldable pub built_line : Before → List (List ℕ) → Result Before Cause
-built_line before (kind ∷ word ∷ []) = two_words before kind word
-built_line before (kind ∷ at ∷ what ∷ []) = three_words before kind at what
-built_line before (kind ∷ at ∷ what ∷ call ∷ []) = four_words before kind at what call
-built_line before (kind ∷ a ∷ b ∷ c ∷ d ∷ e ∷ []) = six_words before kind a b c d e
-built_line before (kind ∷ at ∷ what ∷ call ∷ attempt ∷ code ∷ words ∷ []) = seven_words before kind at what call attempt code words
-built_line before words = Err BadLine
-
--- so many words: at least one behind the first few, and at most 1,000
-abbrev pub has_subs : ℕ → ℕ → Bool
-has_subs few count = nat_le (few + 1) count && nat_le count (few + SUB_LIMIT)
-
--- a line of a kind that isn't built, with as many words as its kind has: `par`, `sel`, `part`
-abbrev pub is_unbuilt : List (List ℕ) → Bool
-is_unbuilt [] = false
-is_unbuilt (kind ∷ words) =
-    (bytes_eq kind (codes "par") && has_subs 4 (length words))
-    || (bytes_eq kind (codes "sel") && has_subs 3 (length words))
-    || (bytes_eq kind (codes "part") && has_subs 8 (length words))
-
--- a line `serve` with as many words as it has
-abbrev pub is_serve : List (List ℕ) → Bool
-is_serve [] = false
-is_serve (kind ∷ words) = bytes_eq kind (codes "serve") && has_subs 1 (length words)
-
-abbrev pub serve_words : Before → List (List ℕ) → Result Before Cause
-serve_words before (kind ∷ server ∷ words) = serve_line before server words
-serve_words before words = Err BadLine
-
 abbrev pub is_word : List ℕ → Bool
 is_word word = not (length word == 0)
+
+-- a line of as many words as its kind has
+unfoldable pub fixed_line : Before → List (List ℕ) → Result Before Cause
+fixed_line before (kind ∷ word ∷ []) = two_words before kind word
+fixed_line before (kind ∷ at ∷ what ∷ []) = three_words before kind at what
+fixed_line before (kind ∷ at ∷ what ∷ call ∷ []) = four_words before kind at what call
+fixed_line before (kind ∷ a ∷ b ∷ c ∷ d ∷ e ∷ []) = six_words before kind a b c d e
+fixed_line before (kind ∷ at ∷ what ∷ call ∷ attempt ∷ code ∷ words ∷ []) = seven_words before kind at what call attempt code words
+fixed_line before words = Err BadLine
+
+-- a line that ends in a list, by the words ahead of the list
+unfoldable pub serve_head : Before → List (List ℕ) → List (List ℕ) → Result Before Cause
+serve_head before (kind ∷ server ∷ []) words = serve_line before server words
+serve_head before head words = Err BadLine
+
+unfoldable pub par_head : Before → List (List ℕ) → List (List ℕ) → Result Before Cause
+par_head before (kind ∷ name ∷ fail ∷ ok ∷ timeout ∷ []) words = par_line before name fail ok timeout words
+par_head before head words = Err BadLine
+
+unfoldable pub sel_head : Before → List (List ℕ) → List (List ℕ) → Result Before Cause
+sel_head before (kind ∷ name ∷ retry ∷ timeout ∷ []) words = sel_line before name retry timeout words
+sel_head before head words = Err BadLine
+
+unfoldable pub part_head : Before → List (List ℕ) → List (List ℕ) → Result Before Cause
+part_head before (kind ∷ name ∷ parts ∷ retry ∷ backup ∷ fail ∷ ok ∷ timeout ∷ kinds ∷ []) words = part_line before name parts retry backup fail ok timeout kinds words
+part_head before head words = Err BadLine
+
+-- so many words: the first few, and then a list of at least one and at most 1,000
+abbrev pub has_list : ℕ → ℕ → Bool
+has_list few count = nat_lt few count && nat_le count (few + SUB_LIMIT)
+
+-- the line is of this kind, with so few words ahead of its list
+abbrev pub is_kind : List ℕ → ℕ → List (List ℕ) → Bool
+is_kind kind few [] = false
+is_kind kind few (first ∷ words) = bytes_eq first kind && has_list few (length words + 1)
+
+abbrev pub other_kind_says : Before → List (List ℕ) → Result Before Cause
+other_kind_says before words =
+    if is_kind (codes "sel") 4 words then sel_head before (take 4 words) (drop 4 words)
+    else if is_kind (codes "part") 9 words then part_head before (take 9 words) (drop 9 words)
+    else fixed_line before words
+
+abbrev pub kind_says : Before → List (List ℕ) → Result Before Cause
+kind_says before words =
+    if is_kind (codes "serve") 2 words then serve_head before (take 2 words) (drop 2 words)
+    else if is_kind (codes "par") 5 words then par_head before (take 5 words) (drop 5 words)
+    else other_kind_says before words
 
 unfoldable pub words_say : Before → List (List ℕ) → Result Before Cause
 words_say before words = do
   _ ← demand (list_all is_word words) BadLine
-  _ ← demand (not (is_unbuilt words)) NotBuilt
-  if is_serve words then serve_words before words else built_line before words
+  kind_says before words
 
 -- an empty line and a comment say nothing
 abbrev pub says_nothing : List ℕ → Bool

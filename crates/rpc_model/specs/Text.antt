@@ -5,7 +5,7 @@ use Rattle.rpc_model.specs.declared.event.End.TheVariants.{Good, Bad}
 use Rattle.rpc_model.specs.declared.told.Told.{Told}
 use Rattle.rpc_model.specs.declared.told.Told.TheVariants.{Ended, Unended, Full, Gone}
 use Rattle.rpc_model.specs.declared.script.Cause.{Cause}
-use Rattle.rpc_model.specs.declared.script.Cause.TheVariants.{TooLong, LineTooLong, BadByte, BadLine, NotBuilt, SimOnly, LiveOnly, BadNumber, BadOption}
+use Rattle.rpc_model.specs.declared.script.Cause.TheVariants.{TooLong, LineTooLong, BadByte, BadLine, SimOnly, LiveOnly, BadNumber, BadOption}
 use Rattle.rpc_model.specs.declared.script.Cause.TheVariants.{BadName, DupName, NoName, BadSub, BadTag, BadWord, DupCall, NoCall, BadAttempt, TextTooLong}
 use Rattle.rpc_model.specs.declared.script.Cause.TheVariants.{Late, MissingPart, TooDeep, TooWide, TooMany, TooMuch}
 
@@ -29,7 +29,6 @@ cause_word TooLong = codes "TooLong"
 cause_word LineTooLong = codes "LineTooLong"
 cause_word BadByte = codes "BadByte"
 cause_word BadLine = codes "BadLine"
-cause_word NotBuilt = codes "NotBuilt"
 cause_word SimOnly = codes "SimOnly"
 cause_word LiveOnly = codes "LiveOnly"
 cause_word BadNumber = codes "BadNumber"

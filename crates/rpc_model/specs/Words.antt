@@ -128,12 +128,15 @@ direction_word word =
     else if bytes_eq (take 6 word) (codes "delay=") then numbered (λ n. direction.Delay n) (number_or BadWord 1 DELAY_LIMIT (drop 6 word))
     else Err BadWord
 
--- one direction, and those behind it
-abbrev pub direction_then : Result (List Direction) Cause → Direction → Result (List Direction) Cause
-direction_then (Ok others) first = Ok (first ∷ others)
-direction_then (Err cause) first = Err cause
+-- one more, in front of others
+abbrev pub and_others : {A : Type 0} → Result (List A) Cause → A → Result (List A) Cause
+and_others (Ok others) first = Ok (first ∷ others)
+and_others (Err cause) first = Err cause
 
--- directions, or the cause of the first bad one
+-- what each word stands for, or the cause of the first bad one
+abbrev pub each : {A : Type 0} → (List ℕ → Result A Cause) → List (List ℕ) → Result (List A) Cause
+each one [] = Ok []
+each one (word ∷ words) = one word >>= and_others (each one words)
+
 abbrev pub direction_words : List (List ℕ) → Result (List Direction) Cause
-direction_words [] = Ok []
-direction_words (word ∷ words) = direction_word word >>= direction_then (direction_words words)
+direction_words words = each direction_word words

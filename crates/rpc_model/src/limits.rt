@@ -13,6 +13,17 @@ pub const SERVER_NAME_LIMIT: usize = 16;
 /// The greatest number of words at the end of a line that may have several there: the sub channels of a channel, the
 /// servers of a partition channel and the directions of a server.
 pub const SUB_LIMIT: usize = 1_000;
+/// The greatest number of failed subs, or of subs that succeeded, at which a channel may end its call.
+pub const END_LIMIT: u64 = 1_000;
+/// The greatest number of parts of a partition channel.
+pub const PART_LIMIT: u64 = 100;
+/// The greatest number of parts that a server's tag may name.
+pub const TAG_LIMIT: u64 = 1_000;
+/// The greatest depth of a channel: a plain one has depth 1, a partition channel 2, and another one is one deeper than
+/// its deepest sub.
+pub const DEPTH_LIMIT: u32 = 8;
+/// The greatest width of a call's plan, in nodes and possible attempts together.
+pub const WIDTH_LIMIT: u32 = 1_024;
 /// The greatest number of calls of a script that is replayed.
 pub const SIM_CALL_LIMIT: usize = 100_000;
 /// The greatest number of calls of a script that is run against servers.

@@ -91,8 +91,6 @@ pub enum Cause {
     BadByte,
     /// A word is empty, the first word or the third after `at` is unknown, or there are too few or too many words.
     BadLine,
-    /// The line is of a kind that isn't built so far.
-    NotBuilt,
     /// The line is one of scripts that are replayed.
     SimOnly,
     /// The line is one of scripts that are run against servers.

@@ -1,21 +1,23 @@
 //! The lines of calls and of what comes to them.
 
-ghost use Rattle.std.specs.Prelude.{◌≡◌, ℕ, ◌+◌, ◌^◌, ◌<◌, ◌≤◌, [], ◌∷◌, ◌++◌, length, Option, MatchOption, IfSome, None, Some, OnOk, OnErr, IfOk, Err, Ok};
+ghost use Rattle.std.specs.Prelude.{◌≡◌, ℕ, ◌+◌, ◌^◌, ◌<◌, ◌≤◌, true, [], ◌∷◌, ◌++◌, length, Option, IfSome, None, Some, OnOk, OnErr, IfOk, Err, Ok};
 ghost use Rattle.rpc_model.specs.CallLines as spec;
 ghost use Rattle.rpc_model.specs.Before as before;
 ghost use Rattle.rpc_model.specs.Words as words_spec;
-ghost use Rattle.rpc_model.specs.Plan.{plan, leaf_plan};
+ghost use Rattle.rpc_model.specs.Plan.{plan};
 ghost use Rattle.rpc_model.specs.Limits.{IsAct, IsMoment, begins};
 ghost use Rattle.rpc_model.specs.declared.script.Act.TheVariants as act;
 ghost use Rattle.call_script.specs.Judged.{Judged, Gives};
+ghost use Rattle.call_script.specs.Sized.{IsSized};
 
 use super::Reader;
 use crate::fault::LineFault;
 use crate::words::{attempt_word, is_name, number, text};
+use chan_tree::{Size, retry_at, size_of};
 use rpc_base::Bytes;
 use rpc_model::{
-    ATTEMPT_WEIGHT, Act, CALL_NUMBER_LIMIT, CODE_LIMIT, Cause, Chan, EVENT_LIMIT, LIVE_CALL_LIMIT,
-    LIVE_WEIGHT_LIMIT, LeafChan, MOMENT_LIMIT, Mode, SIM_CALL_LIMIT, SIM_WEIGHT_LIMIT,
+    ATTEMPT_WEIGHT, Act, CALL_NUMBER_LIMIT, CODE_LIMIT, Cause, EVENT_LIMIT, LIVE_CALL_LIMIT,
+    LIVE_WEIGHT_LIMIT, MOMENT_LIMIT, Mode, SIM_CALL_LIMIT, SIM_WEIGHT_LIMIT,
 };
 
 /// The moment, the call and the attempt that a reply or a loss is for.
@@ -28,34 +30,22 @@ struct Aim {
 }
 
 impl Reader {
-    /// The plain channel of this number.
-    fn leaf_on(&self, chan: u32) -> Option<&LeafChan>
-        ensures plan { MatchOption result ((call : ℕ) → plan self.now.chans chan call ≡ None) (λ leaf. (call : ℕ) → plan self.now.chans chan call ≡ Some (leaf_plan leaf.now)) }
-        ensures few { IfSome result (λ leaf. leaf.now.retry ≤ 100) }
+    /// How many nodes and possible attempts the plan of a call of this number has, or none where it is too wide.
+    fn size_of(&self, chan: u32, call: u32) -> Option<Size>
+        requires { chan < length self.now.names }
+        ensures { IsSized result (plan self.now.chans chan call) }
     {
-        match self.chans.get(chan as usize)? {
-            Chan::Leaf(leaf) => Some(leaf),
-            _ => unreachable!(),
-        }
+        size_of(self.chans.as_slice(), chan, call)
     }
 
-    /// How many attempts a call on this channel may issue.
-    fn attempts_on(&self, chan: u32) -> u64
-        ensures value { (call : ℕ) → result ≡ before.attempts_of (plan self.now.chans chan call) }
-        ensures bound { result ≤ 2 ^ 32 }
+    /// Whether the node is a leaf of the call's plan that may issue the attempt.
+    fn has_attempt(&self, chan: u32, call: u32, node: u32, attempt: u32) -> bool
+        requires { before.chan_of self.now.acts call ≡ Some chan }
+        ensures { result ≡ spec.has_attempt (plan self.now.chans chan call) node attempt }
     {
-        match self.leaf_on(chan) {
-            Some(leaf) => u64::from(leaf.retry) + 1,
-            None => 0,
-        }
-    }
-
-    /// Whether the node is a leaf of the channel's plan that may issue the attempt.
-    fn has_attempt(&self, chan: u32, node: u32, attempt: u32) -> bool
-        ensures { (call : ℕ) → result ≡ spec.has_attempt (plan self.now.chans chan call) node attempt }
-    {
-        match self.leaf_on(chan) {
-            Some(leaf) => is_attempt(leaf, node, attempt),
+        let mut root = 0;
+        match retry_at(self.chans.as_slice(), chan, call, &mut root, node) {
+            Some(retry) => attempt <= retry,
             None => false,
         }
     }
@@ -122,7 +112,8 @@ impl Reader {
 
     /// The number of a call that a line before begins, and its channel.
     fn known_call(&self, word: &[u8]) -> Result<(u32, u32), Cause>
-        ensures { result ≡ spec.known_call self.now word.now }
+        ensures call { result ≡ spec.known_call self.now word.now }
+        ensures known { IfOk result (λ c. before.chan_of self.now.acts c.0 ≡ Some c.1) }
     {
         let call = call_number(word)?;
         match self.chan_of(call) {
@@ -133,9 +124,10 @@ impl Reader {
 
     /// The number of the channel of this name.
     #[tactic(auto, unfolding(rpc_model::specs::Words::known_name))]
-    fn known_channel(&self, name: &[u8]) -> Result<u32, Cause>
+    pub(super) fn known_channel(&self, name: &[u8]) -> Result<u32, Cause>
         ensures chan { result ≡ words_spec.known_name self.now.names name.now }
         ensures known { IfOk result (λ chan. chan < length self.now.names) }
+        ensures there { IfOk result (λ chan. chan < length self.now.chans) }
     {
         if !is_name(name) {
             return Err(Cause::BadName);
@@ -169,10 +161,13 @@ impl Reader {
         requires short { length payload.now ≤ 60000 }
         ensures { Judged result self.new (spec.with_call self.old at call chan payload.now) }
     {
+        let Some(size) = self.size_of(chan, call) else {
+            return Err(LineFault::Refused(Cause::TooWide));
+        };
         if self.call_count() >= self.call_limit() {
             return Err(LineFault::Refused(Cause::TooMany));
         }
-        let weight = (payload.len() as u64 + ATTEMPT_WEIGHT) * self.attempts_on(chan);
+        let weight = (payload.len() as u64 + ATTEMPT_WEIGHT) * u64::from(size.attempts);
         if self.total_weight() + weight > self.weight_limit() {
             return Err(LineFault::Refused(Cause::TooMuch));
         }
@@ -194,6 +189,7 @@ impl Reader {
         requires known { chan < length self.old.names }
         requires short { length text ≤ 60000 }
         requires room { length (before.calls_of self.old.acts) < 100000 }
+        requires narrow { spec.is_narrow (plan self.old.chans chan call) ≡ true }
         requires weight { weight ≡ before.call_weight self.old.chans chan call text }
         requires light { before.total_weight self.old.chans self.old.acts + weight ≤ 2 ^ 30 }
         ensures call { OnOk result (self.new ≡ spec.with_act self.old (act.Call at call chan text)) }
@@ -247,7 +243,7 @@ impl Reader {
         let at = moment(at)?;
         let (call, chan) = self.known_call(call)?;
         let (node, attempt) = attempt_word(attempt)?;
-        if !self.has_attempt(chan, node, attempt) {
+        if !self.has_attempt(chan, call, node, attempt) {
             return Err(LineFault::Refused(Cause::BadAttempt));
         }
         Ok(Aim {
@@ -352,12 +348,4 @@ fn call_number(word: &[u8]) -> Result<u32, Cause>
 {
     let number = number(word, 1, CALL_NUMBER_LIMIT)?;
     Ok(number as u32)
-}
-
-/// Whether a plain channel's call may issue this attempt at this node.
-#[tactic(auto, using(crate::proofs::Plain::plain_attempt))]
-fn is_attempt(leaf: &LeafChan, node: u32, attempt: u32) -> bool
-    ensures { result ≡ spec.has_attempt (Some (leaf_plan leaf.now)) node attempt }
-{
-    node == 0 && attempt <= leaf.retry
 }

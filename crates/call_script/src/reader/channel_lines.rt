@@ -1,10 +1,12 @@
 //! The lines of channels.
 
-ghost use Rattle.std.specs.Prelude.{◌≡◌, ◌<◌, ◌≤◌, nat_le, IsTrue, All, map, [], ◌∷◌, ◌++◌, length, Option, None, OnOk, OnErr, IfOk, Err};
+ghost use Rattle.std.specs.Prelude.{◌≡◌, ◌<◌, ◌≤◌, nat_le, IsTrue, All, map, [], ◌∷◌, ◌++◌, length, Option, None, Some, OnOk, OnErr, IfOk, Err};
 ghost use Rattle.std.specs.List.{slice_split, list_all};
 ghost use Rattle.rpc_model.specs.ChannelLines as spec;
 ghost use Rattle.rpc_model.specs.Words as words_spec;
-ghost use Rattle.rpc_model.specs.Limits.{IsLeaf, IsWait};
+ghost use Rattle.rpc_model.specs.Faults as faults;
+ghost use Rattle.rpc_model.specs.Fits.{IsChan};
+ghost use Rattle.rpc_model.specs.Limits.{IsWait};
 ghost use Rattle.rpc_model.specs.declared.chan.Chan.TheVariants as chan;
 ghost use Rattle.call_script.specs.Judged.{Judged, Gives};
 
@@ -14,14 +16,15 @@ use crate::fault::LineFault;
 use crate::words::{is_name, number_option, wait_option};
 use rpc_base::List;
 use rpc_model::{
-    CHANNEL_LIMIT, Cause, Chan, LeafChan, RETRY_LIMIT, SERVER_LIMIT, SERVER_NAME_LIMIT,
+    CHANNEL_LIMIT, Cause, Chan, LeafChan, MapKind, MergeKind, RETRY_LIMIT, SERVER_LIMIT,
+    SERVER_NAME_LIMIT,
 };
 use std::alloc::Global;
 
 impl Reader {
     /// Refuses a name of no channel's form, and one that an earlier channel has.
     #[tactic(auto, unfolding(rpc_model::specs::Words::new_name))]
-    fn check_new_name(&self, name: &[u8]) -> Result<(), LineFault>
+    pub(super) fn check_new_name(&self, name: &[u8]) -> Result<(), LineFault>
         ensures name { Gives (λ done. name.now) result (words_spec.new_name self.now.names name.now) }
         ensures fresh { OnOk result (words_spec.index_of self.now.names name.now ≡ None) }
     {
@@ -35,7 +38,7 @@ impl Reader {
     }
 
     /// A server of this name, which comes last where no line has mentioned it. Whether there was room for it.
-    fn mention(&mut self, name: &[u8]) -> Result<bool, LineFault>
+    pub(super) fn mention(&mut self, name: &[u8]) -> Result<bool, LineFault>
         ensures room { IfOk result (λ room. room ≡ nat_le (length (spec.mention self.old.servers name.now)) 16) }
         ensures servers { IfOk result (λ room. IsTrue room → self.new ≡ record self.old { servers = spec.mention self.old.servers name.now }) }
         ensures cause { OnErr result (result ≡ Err LineFault.Memory) }
@@ -81,22 +84,24 @@ impl Reader {
         Ok(numbers)
     }
 
-    /// One more channel.
-    fn push_channel(&mut self, name: &[u8], leaf: LeafChan) -> Result<(), LineFault>
+    /// One more channel, of this depth, which names no server that lines haven't mentioned.
+    pub(super) fn push_channel(
+        &mut self,
+        name: &[u8],
+        chan: Chan<MapKind, MergeKind>,
+        depth: u32,
+    ) -> Result<(), LineFault>
         requires fresh { words_spec.index_of self.old.names name.now ≡ None }
         requires room { length self.old.names < 1000 }
-        requires leaf { IsLeaf (length self.old.servers) leaf }
-        ensures channel { OnOk result (self.new ≡ record self.old { names = self.old.names ++ name.now ∷ []; chans = self.old.chans ++ chan.Leaf leaf ∷ [] }) }
+        requires chan { IsChan (length self.old.servers) (length self.old.chans) chan }
+        requires depth { depth ≡ faults.chan_depth (faults.depth self.old.chans) (Some chan) }
+        requires shallow { depth ≤ 8 }
+        ensures channel { OnOk result (self.new ≡ spec.with_chan self.old name.now chan) }
         ensures cause { OnErr result (result ≡ Err LineFault.Memory) }
     {
-        self.chans.push(Chan::Leaf(leaf))?;
-        match self.names.push(name) {
-            Ok(()) => Ok(()),
-            Err(_) => {
-                self.chans.pop();
-                Err(LineFault::Memory)
-            }
-        }
+        self.chans.push(chan, depth)?;
+        self.names.push(name)?;
+        Ok(())
     }
 
     /// One more plain channel, over servers that lines have mentioned.
@@ -121,12 +126,13 @@ impl Reader {
         let servers = self.server_numbers(names)?;
         self.push_channel(
             name,
-            LeafChan {
+            Chan::Leaf(LeafChan {
                 servers: List::of(servers),
                 retry,
                 backup,
                 timeout,
-            },
+            }),
+            1,
         )
     }
 

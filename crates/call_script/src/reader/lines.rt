@@ -1,6 +1,6 @@
 //! A line by its words.
 
-ghost use Rattle.std.specs.Prelude.{◌≡◌, ◌≤◌, map, length};
+ghost use Rattle.std.specs.Prelude.{◌≡◌, ◌+◌, ◌<◌, ◌≤◌, IsTrue, map, length};
 ghost use Rattle.std.specs.List.{list_all};
 ghost use Rattle.rpc_model.specs.Lines as spec;
 ghost use Rattle.call_script.specs.Judged.{Judged};
@@ -8,6 +8,7 @@ ghost use Rattle.call_script.specs.Judged.{Judged};
 use super::Reader;
 use crate::cut::cut;
 use crate::fault::LineFault;
+use crate::reader::part_lines::PartOptions;
 use crate::words::all_within;
 use rpc_model::{Cause, LINE_LIMIT, SUB_LIMIT};
 
@@ -92,10 +93,10 @@ impl Reader {
         Err(LineFault::Refused(Cause::BadLine))
     }
 
-    /// A line of a kind that is built.
-    #[tactic(auto, unfolding(rpc_model::specs::Lines::built_line))]
-    fn built_line(&mut self, words: &[&[u8]]) -> Result<(), LineFault>
-        ensures { Judged result self.new (spec.built_line self.old (map (λ w. w.now) words.now)) }
+    /// A line of as many words as its kind has.
+    #[tactic(auto, unfolding(rpc_model::specs::Lines::fixed_line))]
+    fn fixed_line(&mut self, words: &[&[u8]]) -> Result<(), LineFault>
+        ensures { Judged result self.new (spec.fixed_line self.old (map (λ w. w.now) words.now)) }
     {
         match words {
             [kind, word] => self.two_words(kind, word),
@@ -109,6 +110,91 @@ impl Reader {
         }
     }
 
+    /// A line `serve`, by the words ahead of its list, and the list.
+    #[tactic(auto, unfolding(rpc_model::specs::Lines::serve_head))]
+    fn serve_head(&mut self, head: &[&[u8]], words: &[&[u8]]) -> Result<(), LineFault>
+        ensures { Judged result self.new (spec.serve_head self.old (map (λ w. w.now) head.now) (map (λ w. w.now) words.now)) }
+    {
+        let [_, server] = head else {
+            return Err(LineFault::Refused(Cause::BadLine));
+        };
+        self.serve_line(server, words)
+    }
+
+    #[tactic(auto, unfolding(rpc_model::specs::Lines::par_head))]
+    fn par_head(&mut self, head: &[&[u8]], words: &[&[u8]]) -> Result<(), LineFault>
+        requires some { 1 ≤ length words.now }
+        requires few { length words.now ≤ 1000 }
+        ensures { Judged result self.new (spec.par_head self.old (map (λ w. w.now) head.now) (map (λ w. w.now) words.now)) }
+    {
+        let [_, name, fail, ok, timeout] = head else {
+            return Err(LineFault::Refused(Cause::BadLine));
+        };
+        self.par_line(name, fail, ok, timeout, words)
+    }
+
+    #[tactic(auto, unfolding(rpc_model::specs::Lines::sel_head))]
+    fn sel_head(&mut self, head: &[&[u8]], words: &[&[u8]]) -> Result<(), LineFault>
+        requires some { 1 ≤ length words.now }
+        requires few { length words.now ≤ 1000 }
+        ensures { Judged result self.new (spec.sel_head self.old (map (λ w. w.now) head.now) (map (λ w. w.now) words.now)) }
+    {
+        let [_, name, retry, timeout] = head else {
+            return Err(LineFault::Refused(Cause::BadLine));
+        };
+        self.sel_line(name, retry, timeout, words)
+    }
+
+    #[tactic(auto, unfolding(rpc_model::specs::Lines::part_head))]
+    fn part_head(&mut self, head: &[&[u8]], words: &[&[u8]]) -> Result<(), LineFault>
+        requires some { 1 ≤ length words.now }
+        requires few { length words.now ≤ 1000 }
+        ensures { Judged result self.new (spec.part_head self.old (map (λ w. w.now) head.now) (map (λ w. w.now) words.now)) }
+    {
+        let [_, name, parts, retry, backup, fail, ok, timeout, kinds] = head else {
+            return Err(LineFault::Refused(Cause::BadLine));
+        };
+        let options = PartOptions {
+            retry,
+            backup,
+            fail,
+            ok,
+            timeout,
+        };
+        self.part_line(name, parts, options, kinds, words)
+    }
+
+    /// A line by its kind.
+    #[tactic(auto, using(crate::proofs::Heads::head_words, crate::proofs::Heads::list_words))]
+    fn kind_says(&mut self, words: &[&[u8]]) -> Result<(), LineFault>
+        ensures { Judged result self.new (spec.kind_says self.old (map (λ w. w.now) words.now)) }
+    {
+        if is_kind(words, b"serve", 2) {
+            let (head, list) = words.split_at(2);
+            return self.serve_head(head, list);
+        }
+        if is_kind(words, b"par", 5) {
+            let (head, list) = words.split_at(5);
+            return self.par_head(head, list);
+        }
+        self.other_kind_says(words)
+    }
+
+    #[tactic(auto, using(crate::proofs::Heads::head_words, crate::proofs::Heads::list_words))]
+    fn other_kind_says(&mut self, words: &[&[u8]]) -> Result<(), LineFault>
+        ensures { Judged result self.new (spec.other_kind_says self.old (map (λ w. w.now) words.now)) }
+    {
+        if is_kind(words, b"sel", 4) {
+            let (head, list) = words.split_at(4);
+            return self.sel_head(head, list);
+        }
+        if is_kind(words, b"part", 9) {
+            let (head, list) = words.split_at(9);
+            return self.part_head(head, list);
+        }
+        self.fixed_line(words)
+    }
+
     #[tactic(auto, unfolding(rpc_model::specs::Lines::words_say))]
     fn words_say(&mut self, words: &[&[u8]]) -> Result<(), LineFault>
         ensures { Judged result self.new (spec.words_say self.old (map (λ w. w.now) words.now)) }
@@ -116,26 +202,7 @@ impl Reader {
         if !are_words(words) {
             return Err(LineFault::Refused(Cause::BadLine));
         }
-        if is_unbuilt(words) {
-            return Err(LineFault::Refused(Cause::NotBuilt));
-        }
-        if is_serve(words) {
-            return self.serve_words(words);
-        }
-        self.built_line(words)
-    }
-
-    /// A line `serve`.
-    fn serve_words(&mut self, words: &[&[u8]]) -> Result<(), LineFault>
-        ensures { Judged result self.new (spec.serve_words self.old (map (λ w. w.now) words.now)) }
-    {
-        let Some((_, rest)) = words.split_first() else {
-            return Err(LineFault::Refused(Cause::BadLine));
-        };
-        let Some((server, directions)) = rest.split_first() else {
-            return Err(LineFault::Refused(Cause::BadLine));
-        };
-        self.serve_line(server, directions)
+        self.kind_says(words)
     }
 
     /// One more line.
@@ -172,32 +239,22 @@ fn is_word(word: &[u8]) -> bool
     !word.is_empty()
 }
 
-/// At least one word behind the first few, and at most `SUB_LIMIT`.
-fn has_subs(few: usize, count: usize) -> bool
-    requires { few ≤ 8 }
-    ensures { result ≡ spec.has_subs few count }
+/// So many words: the first few, and then a list of at least one and at most `SUB_LIMIT`.
+fn has_list(few: usize, count: usize) -> bool
+    requires { few ≤ 9 }
+    ensures { result ≡ spec.has_list few count }
 {
     few < count && count <= few + SUB_LIMIT
 }
 
-/// Whether the words are a line of a kind that isn't built, with as many words as its kind has.
-fn is_unbuilt(words: &[&[u8]]) -> bool
-    ensures { result ≡ spec.is_unbuilt (map (λ w. w.now) words.now) }
+/// Whether the line is of this kind, with so few words ahead of its list.
+fn is_kind(words: &[&[u8]], kind: &[u8], few: usize) -> bool
+    requires { few ≤ 9 }
+    ensures kind { result ≡ spec.is_kind kind.now few (map (λ w. w.now) words.now) }
+    ensures few { IsTrue result → (few < length words.now) × (length words.now ≤ few + 1000) }
 {
-    let [kind, rest @ ..] = words else {
+    let Some((first, rest)) = words.split_first() else {
         return false;
     };
-    (**kind == *b"par".as_slice() && has_subs(4, rest.len()))
-        || (**kind == *b"sel".as_slice() && has_subs(3, rest.len()))
-        || (**kind == *b"part".as_slice() && has_subs(8, rest.len()))
-}
-
-/// Whether the words are a line `serve`, with as many words as it has.
-fn is_serve(words: &[&[u8]]) -> bool
-    ensures { result ≡ spec.is_serve (map (λ w. w.now) words.now) }
-{
-    let [kind, rest @ ..] = words else {
-        return false;
-    };
-    **kind == *b"serve".as_slice() && has_subs(1, rest.len())
+    **first == *kind && has_list(few, rest.len() + 1)
 }

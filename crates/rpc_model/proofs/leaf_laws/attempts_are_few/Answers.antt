@@ -1,5 +1,3 @@
-use Rattle.std.proofs.Common.{ap, subst, sym, ◌≤◌, ◌+◌, ℕ}
-use Rattle.rpc_model.specs.State.{State, attempts}
 use Rattle.rpc_model.proofs.LeafRuns.{machine-runs}
 use Rattle.rpc_model.proofs.leaf_laws.attempts_are_few.Goals as goal
 

@@ -1,5 +1,5 @@
 -- There is a piece, also where there is no comma.
-use Rattle.std.proofs.Common.{rules, ◌≤◌, ◌==◌, length, arith, ap, sym, ◌∙◌}
+use Rattle.std.proofs.Common.{◌==◌, length, arith, ap, sym, ◌∙◌}
 use Rattle.std.proofs.lemmas.List.{length-map}
 use Rattle.std.proofs.lemmas.List.Splits.{length-slice_split}
 use Rattle.call_script.proofs.reader.channel_lines.server_names.Goals as goal

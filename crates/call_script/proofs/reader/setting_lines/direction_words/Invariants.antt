@@ -3,7 +3,7 @@ use Rattle.std.proofs.Common.{◌≡◌, map, drop}
 use Rattle.std.specs.Prelude.{All}
 use Rattle.rpc_model.specs.Words.{direction_words}
 use Rattle.rpc_model.specs.Limits.{IsSpelled}
-use Rattle.call_script.proofs.Directed.{behind}
+use Rattle.call_script.proofs.Each.{behind}
 use Rattle.call_script.proofs.reader.setting_lines.direction_words.Given as goal
 
 abbrev pub invariant-loop-word : goal.invariant-loop-word
