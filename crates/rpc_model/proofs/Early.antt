@@ -187,7 +187,7 @@ finish-fuel zero k r b hn hk = sym (finish-idle k r b (none-left b hn))
 finish-fuel (suc n) zero r b hn hk = finish-idle (suc n) r b (none-left b hk)
 finish-fuel (suc n) (suc k) r b hn hk = finish-step n k r b (is_some (end_of b.state)) (least_mark b.waiting) refl refl (λ s d hd hd'. finish-fuel n k s d hd hd') hn hk
 
-some-end : (o : Option End) → is_some o ≡ true → (end : End) × (o ≡ Some end)
+pub some-end : (o : Option End) → is_some o ≡ true → (end : End) × (o ≡ Some end)
 some-end None e = absurd (cc)
 some-end (Some end) e = (end, refl)
 

@@ -24,5 +24,6 @@ pub mod Early
 pub mod Once
 mod Logs
 mod Heard
+mod Late
 pub mod MomentsStay
 pub mod Runs

@@ -31,6 +31,7 @@ pub mod Logs
 pub mod Earned
 pub mod Leaves
 pub mod Heard
+pub mod Late
 pub mod Sends
 pub mod Requests
 pub mod Paths

@@ -6,6 +6,7 @@ ghost use Rattle.rpc_model.specs.Completions.{ParallelNodesStandByCompletions};
 ghost use Rattle.rpc_model.specs.Early.{DueMarksMayBeTakenAtOnce};
 ghost use Rattle.rpc_model.specs.Earned.{GoodEndsNeedALiveReply};
 ghost use Rattle.rpc_model.specs.Heard.{TextsNeedAReply, ToldAttemptsAreFew, ToldOnce};
+ghost use Rattle.rpc_model.specs.Late.{LateLinesTellNothing};
 ghost use Rattle.rpc_model.specs.Laws.{EndsStay, NodesStay, LeavesIssueFew, NodesAreOfThePlan, TriesAreFew, SendsAreOfTheState, SendsAreAttempts, NothingIsSentTwice, OffsetsAndMeaningsAreInverse, WeavesJoin};
 ghost use Rattle.rpc_model.specs.Logs.{EndsAreTheMachines};
 ghost use Rattle.rpc_model.specs.Moments.{MomentsAreEarly};
@@ -30,6 +31,12 @@ pub fn told_attempts_are_few()
 /// The joins of a script tell the end of a call at most once.
 pub fn told_once()
     ensures { ToldOnce }
+{}
+
+/// What comes after the end of a call changes nothing that is told: a reply, a loss or a cancel of a call that is over by
+/// then tells the same as a tick in its place.
+pub fn late_lines_tell_nothing()
+    ensures { LateLinesTellNothing }
 {}
 
 /// Every moment that an accepted script reaches stays below 2^60, and so does every mark that waits then.
@@ -78,7 +85,8 @@ pub fn good_ends_need_a_live_reply<M, G>()
 {}
 
 /// The end of a parallel node, wherever it is in the tree, is that of its completions in the order in which they came, or
-/// that of its deadline; only where no sub was started, or the whole call was cancelled, is it another.
+/// that of its deadline, and then its own deadline came to it while it was open. Only where no sub was started, or a cancel
+/// came to the whole call while it was open, is it another.
 pub fn parallel_nodes_stand_by_completions<M, G>()
     ensures { (kinds : Kinds M G) → ParallelNodesStandByCompletions kinds }
 {}
