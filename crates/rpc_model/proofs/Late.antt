@@ -17,7 +17,9 @@ use Rattle.rpc_model.specs.Logs.{after_all}
 use Rattle.rpc_model.specs.Late.{BringsTo, IsOver, LateLinesTellNothing}
 use Rattle.rpc_model.proofs.Ended.{step-ended}
 use Rattle.rpc_model.proofs.Few.{call-step-few}
-use Rattle.rpc_model.proofs.Early.{some-end, weave-twice, same-lines}
+use Rattle.rpc_model.proofs.Weaves.{weave-twice}
+use Rattle.rpc_model.proofs.Finishes.{some-end}
+use Rattle.rpc_model.proofs.Early.{same-lines}
 
 -- ---- a call
 

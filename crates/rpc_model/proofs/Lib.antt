@@ -20,10 +20,14 @@ pub mod Ended
 mod Replies
 mod Earned
 mod Completions
+pub mod Weaves
+mod Finishes
 pub mod Early
 pub mod Once
+mod Took
 mod Logs
 mod Heard
 mod Late
+mod Taken
 pub mod MomentsStay
 pub mod Runs

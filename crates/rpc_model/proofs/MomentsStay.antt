@@ -33,7 +33,7 @@ use Rattle.rpc_model.proofs.Versions.{width-is}
 
 -- ---- lists
 
-all-weaker : {X : Type 0} (P Q : X → Type 0) (xs : List X) → ((x : X) → P x → Q x) → AllByRecursion P xs → AllByRecursion Q xs
+pub all-weaker : {X : Type 0} (P Q : X → Type 0) (xs : List X) → ((x : X) → P x → Q x) → AllByRecursion P xs → AllByRecursion Q xs
 all-weaker {X} P Q [] weaker h = tt
 all-weaker {X} P Q (x ∷ xs) weaker h = (weaker x h.0, all-weaker P Q xs weaker h.1)
 
@@ -45,7 +45,7 @@ set-all : (P : Mark → Type 0) (m : Mark) (xs : List Mark) → P m → AllByRec
 set-all P m [] h hs = (h, tt)
 set-all P m (x ∷ xs) h hs = elim (is_before m x) as (λ v. AllByRecursion P (cond v (m ∷ x ∷ xs) (x ∷ set_mark m xs))) [ true ↦ (h, hs) | false ↦ (hs.0, set-all P m xs h hs.1) ]
 
-sets-all : (P : Mark → Type 0) (ms xs : List Mark) → AllByRecursion P ms → AllByRecursion P xs → AllByRecursion P (set_all ms xs)
+pub sets-all : (P : Mark → Type 0) (ms xs : List Mark) → AllByRecursion P ms → AllByRecursion P xs → AllByRecursion P (set_all ms xs)
 sets-all P [] xs h hs = hs
 sets-all P (m ∷ ms) xs h hs = sets-all P ms (set_mark m xs) h.1 (set-all P m xs h.0 hs)
 

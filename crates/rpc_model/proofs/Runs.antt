@@ -13,7 +13,7 @@ use Rattle.rpc_model.specs.Machine.{machine}
 use Rattle.rpc_model.specs.Completions.{count_of}
 use Rattle.rpc_model.specs.Sends.{leaf_sends, sends_of, all_sends, is_of}
 use Rattle.rpc_model.specs.Laws.{EndsStay, NodesStay, LeavesIssueFew, NodesAreOfThePlan, TriesAreFew, SendsAreOfTheState, SendsAreAttempts, NothingIsSentTwice, OffsetsAndMeaningsAreInverse, WeavesJoin}
-use Rattle.rpc_model.proofs.Early.{weave-twice}
+use Rattle.rpc_model.proofs.Weaves.{weave-twice}
 use Rattle.rpc_model.proofs.Leaves.{IsKept, machine-each}
 use Rattle.rpc_model.proofs.Paths.{node-stays}
 use Rattle.rpc_model.proofs.Requests.{machine-of}

@@ -1,5 +1,5 @@
 -- What holds of every run of a call on a plain channel.
-use Rattle.std.specs.Prelude.{◌≡◌, ℕ, zero, suc, ◌+◌, ◌<◌, ◌≤◌, Bool, true, false, ◌==◌, fold, List, [], ◌∷◌, ◌++◌, count_by, None, Some}
+use Rattle.std.specs.Prelude.{◌≡◌, ℕ, zero, suc, ◌+◌, ◌<◌, ◌≤◌, true, false, fold, List, [], ◌∷◌, ◌++◌, None, Some}
 use Rattle.rpc_model.specs.declared.chan.LeafChan.{LeafChan}
 use Rattle.rpc_model.specs.declared.event.End.TheVariants.{Good}
 use Rattle.rpc_model.specs.declared.event.Event.{Event}

@@ -13,7 +13,7 @@ use Rattle.rpc_model.specs.declared.kinds.MergeKind.{MergeKind}
 use Rattle.rpc_model.specs.Kinds.{script_kinds}
 use Rattle.rpc_model.specs.State.{end_of, attempts}
 use Rattle.rpc_model.specs.Machine.{machine}
-use Rattle.rpc_model.specs.Marks.{Begun, begin, apply}
+use Rattle.rpc_model.specs.Marks.{Begun, begin, apply, mark_event}
 use Rattle.rpc_model.specs.declared.script.Script.{Script}
 use Rattle.rpc_model.specs.Told.{Replay, unbegun, after, told}
 
@@ -111,3 +111,9 @@ pub record EndsBy (script : Script) (replay : Replay) (acts : List Act) (c : ℕ
 -- Each end that is told is the machine's for that call's own events.
 abbrev pub EndsAreTheMachines : Type 0
 EndsAreTheMachines = (script : Script) (c : ℕ) (end : End) (count : ℕ) → Contains (told script) (Ended c end count) → EndsBy script unbegun script.acts c end count
+
+-- A mark that a call takes is one that its nodes set, for this node and at this very moment.
+abbrev pub TakenMarksWereSet : Type 0
+TakenMarksWereSet = (tree : Plan MapKind MergeKind) (c : ℕ) (text : List ℕ) (begun : ℕ) (before : List (Event × ℕ)) (node : ℕ) (backup : Bool) (moment : ℕ)
+    (rest : List (Event × ℕ)) → AreWoven (begin c tree text begun) (before ++ (mark_event node backup, moment) ∷ rest)
+    → Contains (machine script_kinds tree c text begun before).marks (record { moment = moment; node = node; backup = backup })

@@ -8,13 +8,18 @@ ghost use Rattle.rpc_model.specs.Earned.{GoodEndsNeedALiveReply};
 ghost use Rattle.rpc_model.specs.Heard.{TextsNeedAReply, ToldAttemptsAreFew, ToldOnce};
 ghost use Rattle.rpc_model.specs.Late.{LateLinesTellNothing};
 ghost use Rattle.rpc_model.specs.Laws.{EndsStay, NodesStay, LeavesIssueFew, NodesAreOfThePlan, TriesAreFew, SendsAreOfTheState, SendsAreAttempts, NothingIsSentTwice, OffsetsAndMeaningsAreInverse, WeavesJoin};
-ghost use Rattle.rpc_model.specs.Logs.{EndsAreTheMachines};
+ghost use Rattle.rpc_model.specs.Logs.{EndsAreTheMachines, TakenMarksWereSet};
 ghost use Rattle.rpc_model.specs.Moments.{MomentsAreEarly};
 
 /// Each end that is told is the one that the machine gives for that call's own events: those of the lines that name it, in
 /// their order, woven with its own marks.
 pub fn told_ends_are_the_machines()
     ensures { EndsAreTheMachines }
+{}
+
+/// A mark that a call takes among its events is one that a node of this call set, for this node and at this very moment.
+pub fn taken_marks_were_set()
+    ensures { TakenMarksWereSet }
 {}
 
 /// A text is told only of a call that has a reply line of code 0, and that reply came to an attempt that was live then.
