@@ -135,32 +135,51 @@ fn lists_that_have_no_plans(rt: HostRuntime) -> Result<(), Fail> {
     Ok(())
 }
 
+/// A channel one deeper than the one below it, by each kind that nests: the last one tries the plain channel only.
+fn deeper(alloc: Global, way: u32, below: u32) -> Result<Kinds, AllocError> {
+    match way {
+        0 => par(alloc, &[below]),
+        1 => sel(alloc, 0, &[below]),
+        2 => par(alloc, &[0, below, 0]),
+        _ => sel(alloc, 0, &[0, below]),
+    }
+}
+
+/// The depth counts over all subs, tried or not: a channel of depth 8 has a plan, one of depth 9 and all above it have none,
+/// through a thousand channels each used by the next.
 #[test]
-fn a_chain_of_eight_channels_and_of_nine(rt: HostRuntime) -> Result<(), Fail> {
-    let mut chans = Vec::new(rt.alloc());
-    chans.push(leaf(rt.alloc(), 0)?)?;
-    for below in 0..8 {
-        let wanted = None;
-        assert_eq!(rt;
-            fault(&rt, rt.alloc(), &chans, 1),
-            wanted,
-            "at depth {below}"
-        );
-        if below % 2 == 0 {
-            chans.push(par(rt.alloc(), &[below])?)?;
-        } else {
-            chans.push(sel(rt.alloc(), 0, &[0, below])?)?;
+fn depths_at_the_limit(rt: HostRuntime) -> Result<(), Fail> {
+    let alloc = rt.alloc();
+    // Each way to nest, over a plain channel and over a partition one, which is two deep.
+    for way in 0..4 {
+        for bottom in 1..3 {
+            let mut chans = Vec::new(alloc);
+            chans.push(leaf(alloc, 0)?)?;
+            if bottom == 2 {
+                chans.push(part(alloc, 1, &[(0, 1)])?)?;
+            }
+            for depth in bottom..10 {
+                let wanted = if depth > 8 {
+                    Some(PlanFault::TooDeep(9))
+                } else {
+                    None
+                };
+                assert_eq!(rt;
+                    fault(&rt, alloc, &chans, 2),
+                    wanted,
+                    "way {way} at {depth}"
+                );
+                let below = u32::try_from(chans.len().wrapping_sub(1)).unwrap_or(0);
+                chans.push(deeper(alloc, way, below)?)?;
+            }
         }
     }
-    // The ninth is too deep, though the tries of call 2 don't reach the deep sub.
-    assert_eq!(rt;
-        fault(&rt, rt.alloc(), &chans, 1),
-        Some(PlanFault::TooDeep(9))
-    );
-    assert_eq!(rt;
-        fault(&rt, rt.alloc(), &chans, 2),
-        Some(PlanFault::TooDeep(9))
-    );
+    let mut chans = Vec::new(alloc);
+    chans.push(leaf(alloc, 0)?)?;
+    for below in 0..999 {
+        chans.push(deeper(alloc, below % 4, below)?)?;
+    }
+    assert_eq!(rt; fault(&rt, alloc, &chans, 1), Some(PlanFault::TooDeep(9)));
     Ok(())
 }
 
@@ -183,36 +202,45 @@ fn widths_at_the_limit(rt: HostRuntime) -> Result<(), Fail> {
     Ok(())
 }
 
+/// A parallel channel that asks one channel so many times.
+fn wide(alloc: Global, count: u32, below: u32) -> Result<Kinds, AllocError> {
+    let mut subs = Vec::new(alloc);
+    for _ in 0..count {
+        subs.push(below)?;
+    }
+    par(alloc, &subs)
+}
+
 #[test]
-fn widths_that_no_plan_could_have(rt: HostRuntime) -> Result<(), Fail> {
+fn widths_past_the_limit(rt: HostRuntime) -> Result<(), Fail> {
+    let wanted = Some(PlanFault::TooWide(1025));
+    // 601 nodes and 1,200 attempts.
+    let mut chans = Vec::new(rt.alloc());
+    chans.push(leaf(rt.alloc(), 1)?)?;
+    chans.push(wide(rt.alloc(), 600, 0)?)?;
+    assert_eq!(rt; fault(&rt, rt.alloc(), &chans, 1), wanted);
+    // A width that no number of the machine could hold.
     let mut chans = Vec::new(rt.alloc());
     chans.push(leaf(rt.alloc(), 100)?)?;
-    let mut below = 0u32;
-    for _ in 0..7 {
-        let mut subs = Vec::new(rt.alloc());
-        for _ in 0..1000 {
-            subs.push(below)?;
-        }
-        chans.push(par(rt.alloc(), &subs)?)?;
-        below = below.wrapping_add(1);
+    for below in 0..7 {
+        chans.push(wide(rt.alloc(), 1000, below)?)?;
     }
-    assert_eq!(rt;
-        fault(&rt, rt.alloc(), &chans, 1),
-        Some(PlanFault::TooWide(1025))
-    );
+    assert_eq!(rt; fault(&rt, rt.alloc(), &chans, 1), wanted);
     Ok(())
 }
 
 #[test]
 fn parts_without_a_server(rt: HostRuntime) -> Result<(), Fail> {
     let rows = [
-        ([(0, 2), (1, 2), (0, 3)], None),
-        ([(0, 2), (0, 2), (1, 3)], Some(PlanFault::MissingPart(1))),
-        ([(1, 2), (0, 1), (1, 2)], Some(PlanFault::MissingPart(0))),
+        (2, [(0, 2), (1, 2), (0, 3)], None),
+        (2, [(0, 2), (0, 2), (1, 3)], Some(PlanFault::MissingPart(1))),
+        (2, [(1, 2), (0, 1), (1, 2)], Some(PlanFault::MissingPart(0))),
+        (3, [(0, 3), (1, 3), (2, 3)], None),
+        (3, [(0, 3), (1, 3), (1, 3)], Some(PlanFault::MissingPart(2))),
     ];
-    for (tags, wanted) in rows {
+    for (parts, tags, wanted) in rows {
         let mut chans = Vec::new(rt.alloc());
-        chans.push(part(rt.alloc(), 2, &tags)?)?;
+        chans.push(part(rt.alloc(), parts, &tags)?)?;
         assert_eq!(rt; fault(&rt, rt.alloc(), &chans, 1), wanted, "with {tags:?}");
         // Behind a selective channel only the tries of this call's number count.
         chans.push(leaf(rt.alloc(), 0)?)?;

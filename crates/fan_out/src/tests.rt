@@ -71,6 +71,11 @@ fn parts_are_merged_by_rising_index(rt: HostRuntime) -> Result<(), Fail> {
     Ok(())
 }
 
+ghost use Rattle.std.specs.Prelude.{◌≡◌, ◌^◌, ◌<◌, ◌≤◌, [], None, IfOk, length, unwrap_or};
+ghost use Rattle.fan_out.specs.Longest.{longest, last_only};
+ghost use Rattle.rpc_model.specs.Parallel.{mapped};
+ghost use Rattle.rpc_model.specs.declared.event.End.TheVariants as end;
+
 /// A merger of a user's own: the longer part wins.
 #[derive(Clone, Copy, Debug)]
 struct Longest;
@@ -101,8 +106,48 @@ impl Merger for Longest {
     }
 }
 
+/// By the law of its merger alone the fold is the longest text.
+fn longest_part(alloc: Global, parts: &[Part<Longest>]) -> Result<End, NoMemory>
+    ensures { IfOk result (λ e. e ≡ end.Good (unwrap_or (longest None parts.now) [])) }
+{
+    fold_parts(alloc, parts, 0, 1)
+}
+
+/// A mapper of a user's own: only the last sub is asked.
+#[derive(Clone, Copy, Debug)]
+struct LastOnly;
+
+impl Mapper for LastOnly {
+    ghost use Rattle.fan_out.specs.Longest.{last_only};
+
+    ghost answer = { λ m index count request. last_only index count request };
+
+    fn map(
+        &self,
+        alloc: Global,
+        index: u32,
+        count: u32,
+        request: &[u8],
+    ) -> Result<Mapped, NoMemory> {
+        if index != count.saturating_sub(1) {
+            return Ok(Mapped::Skip);
+        }
+        let mut copy = Vec::new(alloc);
+        copy.extend_from_slice(request)?;
+        Ok(Mapped::Send(Bytes::of(copy)))
+    }
+}
+
+/// By the law of its mapper alone the last sub is asked.
+fn asked_last(alloc: Global, maps: &[LastOnly], request: &[u8]) -> Result<Vec<Mapped>, NoMemory>
+    requires few { length maps.now < 2 ^ 31 }
+    ensures { IfOk result (λ asked. asked.items ≡ mapped (λ m index count q. last_only index count q) maps.now request.now) }
+{
+    ask_all(alloc, maps, request)
+}
+
 #[test]
-fn a_merger_of_ones_own(rt: HostRuntime) -> Result<(), Fail> {
+fn a_mapper_and_a_merger_of_ones_own(rt: HostRuntime) -> Result<(), Fail> {
     let alloc = rt.alloc();
     let mut parts = Vec::new(alloc);
     for text in ["a", "longest", "of"] {
@@ -112,7 +157,12 @@ fn a_merger_of_ones_own(rt: HostRuntime) -> Result<(), Fail> {
             text: bytes(alloc, text)?,
         })?;
     }
-    let end = fold_parts(alloc, &parts, 0, 1)?;
+    let end = longest_part(alloc, &parts)?;
     assert_eq!(rt; end, End::Good(bytes(alloc, "longest")?));
+    let asked = asked_last(alloc, &[LastOnly, LastOnly], b"q")?;
+    let mut wanted = Vec::new(alloc);
+    wanted.push(Mapped::Skip)?;
+    wanted.push(Mapped::Send(bytes(alloc, "q")?))?;
+    assert_eq!(rt; asked, wanted);
     Ok(())
 }
