@@ -30,7 +30,7 @@ const NO_MEMORY: u8 = 9;
 fn main(rt: HostRuntime) -> ExitCode {
     let word = match env::args(&rt) {
         Ok(mut words) => words.nth(1),
-        Err(_) => return ExitCode::FAILURE,
+        Err(_) => return ExitCode::from(NO_MEMORY),
     };
     let Some(word) = word else {
         return ExitCode::SUCCESS;

@@ -1,16 +1,17 @@
 -- What holds of every run of the plain machine, over every channel.
-use Rattle.std.specs.Prelude.{◌≡◌, ℕ, ◌+◌, ◌≤◌, Bool, List, ◌++◌, length, count_by, Option, Some}
+use Rattle.std.specs.Prelude.{◌≡◌, ℕ, ◌+◌, ◌<◌, ◌≤◌, Bool, List, ◌++◌, length, count_by, Option, Some}
 use Rattle.std.specs.List.{IsDistinct}
 use Rattle.rpc_model.specs.declared.event.End.{End}
 use Rattle.rpc_model.specs.declared.event.Event.{Event}
 use Rattle.rpc_model.specs.Effects.{Send}
+use Rattle.rpc_model.specs.declared.chan.Chan.{Chan}
 use Rattle.rpc_model.specs.declared.chan.Chan.TheVariants as chan
 use Rattle.rpc_model.specs.declared.chan.SelChan.{SelChan}
 use Rattle.rpc_model.specs.declared.meaning.Meaning.{Meaning}
 use Rattle.rpc_model.specs.Kinds.{Kinds}
-use Rattle.rpc_model.specs.Plan.{Plan, sel_plan, Plans, chan_plan}
-use Rattle.rpc_model.specs.Versions.{is_same, versions, offset_of, meaning_of}
-use Rattle.rpc_model.specs.State.{State, end_of, attempts}
+use Rattle.rpc_model.specs.Plan.{Rule, Plan, par_plan, sel_plan, Plans, chan_plan, plan}
+use Rattle.rpc_model.specs.Versions.{nodes, is_same, versions, offset_of, meaning_of}
+use Rattle.rpc_model.specs.State.{State, waits, end_of, attempts}
 use Rattle.rpc_model.specs.Machine.{machine}
 use Rattle.rpc_model.specs.Marks.{Begun, weave}
 use Rattle.rpc_model.specs.Completions.{count_of}
@@ -63,6 +64,13 @@ module _ (M G : Type 0) where
   abbrev pub TriesAreFew : Type 0
   TriesAreFew = (plan_of : ℕ → Option (Plan M G)) (call : ℕ) (sel : SelChan) (plan : Plan M G) → chan_plan plan_of call (Some (chan.Sel sel)) ≡ Some plan
       → (plans : Plans M G) × (plan ≡ sel_plan sel.timeout plans) × (count_of plans ≡ sel.retry + 1)
+
+  -- A parallel node of a channel's plan has as many mappers and as many mergers as subs, and these are fewer than the
+  -- plan's nodes.
+  abbrev pub ParallelNodesAreEven : Type 0
+  ParallelNodesAreEven = (chans : List (Chan M G)) (index call : ℕ) (p : Plan M G) (path : List ℕ) (rule : Rule M G) (plans : Plans M G)
+      → plan chans index call ≡ Some p → node_at path (waits p) ≡ Some (waits (par_plan rule plans))
+      → (length rule.maps ≡ count_of plans) × (length rule.merges ≡ count_of plans) × (count_of plans < nodes p)
 
   -- No two versions of a range are of the same, and offsets and meanings are inverse.
   abbrev pub OffsetsAndMeaningsAreInverse : Type 0

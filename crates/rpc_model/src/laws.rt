@@ -7,7 +7,7 @@ ghost use Rattle.rpc_model.specs.Early.{DueMarksMayBeTakenAtOnce};
 ghost use Rattle.rpc_model.specs.Earned.{GoodEndsNeedALiveReply};
 ghost use Rattle.rpc_model.specs.Heard.{TextsNeedAReply, ToldAttemptsAreFew, ToldOnce};
 ghost use Rattle.rpc_model.specs.Late.{LateLinesTellNothing};
-ghost use Rattle.rpc_model.specs.Laws.{EndsStay, NodesStay, LeavesIssueFew, NodesAreOfThePlan, TriesAreFew, SendsAreOfTheState, SendsAreAttempts, NothingIsSentTwice, OffsetsAndMeaningsAreInverse, WeavesJoin};
+ghost use Rattle.rpc_model.specs.Laws.{EndsStay, NodesStay, LeavesIssueFew, NodesAreOfThePlan, ParallelNodesAreEven, TriesAreFew, SendsAreOfTheState, SendsAreAttempts, NothingIsSentTwice, OffsetsAndMeaningsAreInverse, WeavesJoin};
 ghost use Rattle.rpc_model.specs.Logs.{EndsAreTheMachines, TakenMarksWereSet};
 ghost use Rattle.rpc_model.specs.Moments.{MomentsAreEarly};
 
@@ -77,6 +77,11 @@ pub fn leaves_issue_few<M, G>()
 /// The plan of a selective channel has one try more than its own retry limit.
 pub fn tries_are_few<M, G>()
     ensures { TriesAreFew M G }
+{}
+
+/// A parallel node of a channel's plan has as many mappers and as many mergers as subs, and fewer than the plan has nodes.
+pub fn parallel_nodes_are_even<M, G>()
+    ensures { ParallelNodesAreEven M G }
 {}
 
 /// Each node has the channel of the plan at its place, and the request that the mappers above it made of the call's.
