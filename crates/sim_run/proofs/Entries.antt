@@ -1,7 +1,7 @@
 -- One call's step among all calls: its standing changes, and no other does.
-use Rattle.std.proofs.Common.{◌≡◌, ◌≢◌, ℕ, zero, suc, ◌+◌, ◌==◌, ◌⊎◌, inl, inr, Bool, true, false, cond, nat_eq, List, [], ◌∷◌, slice_get, find, count_by, Option, None, Some, ap, sym, refl, ◌∙◌, subst, arith, if◌then◌else◌}
+use Rattle.std.proofs.Common.{◌≡◌, ◌≢◌, ℕ, zero, suc, ◌+◌, ◌==◌, ◌⊎◌, inl, inr, Bool, true, false, cond, nat_eq, List, [], ◌∷◌, ◌++◌, slice_get, find, count_by, Option, None, Some, ap, sym, refl, ◌∙◌, subst, arith, if◌then◌else◌}
 use Rattle.std.proofs.lemmas.Bool.{eqb-true, eqb-false, eq-eqb, ne_eqb}
-use Rattle.std.proofs.lemmas.Bool.Decides.{eqb_tells}
+use Rattle.std.proofs.lemmas.Bool.Decides.{eqb_tells, nat_tests}
 use Rattle.std.proofs.lemmas.List.Sums.{sum_by-cons}
 use Rattle.std.proofs.lemmas.Map.Keys.{IsDistinct-head, IsDistinct-tail}
 use Rattle.std.specs.List.{IsDistinct, AllByRecursion}
@@ -77,14 +77,14 @@ among test range P ((call, o) ∷ xs) e h = elim (found_if (test call) o (Some r
   | inr there ↦ among test range P xs there.1 (behind o (firsts xs) P h)
 ]
 
-change_first-yes : {X : Type 0} (test : X → Bool) (f : X → X) (x : X) (xs : List X) → test x ≡ true → change_first test f (x ∷ xs) ≡ f x ∷ xs
+pub change_first-yes : {X : Type 0} (test : X → Bool) (f : X → X) (x : X) (xs : List X) → test x ≡ true → change_first test f (x ∷ xs) ≡ f x ∷ xs
 change_first-yes test f x xs e = ap (λ b. if b then f x ∷ xs else x ∷ change_first test f xs) e
 
-change_first-no : {X : Type 0} (test : X → Bool) (f : X → X) (x : X) (xs : List X) → test x ≡ false → change_first test f (x ∷ xs) ≡ x ∷ change_first test f xs
+pub change_first-no : {X : Type 0} (test : X → Bool) (f : X → X) (x : X) (xs : List X) → test x ≡ false → change_first test f (x ∷ xs) ≡ x ∷ change_first test f xs
 change_first-no test f x xs e = ap (λ b. if b then f x ∷ xs else x ∷ change_first test f xs) e
 
 -- A standing is the call's where its entry is.
-is_call-standing : (slots : List (Slot Begun)) (call number : ℕ) (o : Option Ticket) → IsKnown slots number o → is_call call (standing_at slots number o) ≡ nat_eq call number
+pub is_call-standing : (slots : List (Slot Begun)) (call number : ℕ) (o : Option Ticket) → IsKnown slots number o → is_call call (standing_at slots number o) ≡ nat_eq call number
 is_call-standing slots call number o known = ap (λ n. n == call) (numbered slots number o known) ∙ nat_eq-flip call number
 
 moved-here : (slots after : List (Slot Begun)) (call : ℕ) (range : Ticket) (f : Standing → Standing) (xs : List (ℕ × Option Ticket)) → IsDistinct nat_eq (range.first ∷ firsts xs)
@@ -169,6 +169,35 @@ change_first-nothing test f [] h = refl
 change_first-nothing test f (x ∷ xs) h =
     nothing-if (test x) f x xs (change_first test f xs) (λ e. h x (ap (λ b. if b then Some x else find test xs) e))
     (λ e. change_first-nothing test f xs (λ y found. h y (ap (λ b. if b then Some x else find test xs) e ∙ found)))
+
+-- What holds of each entry holds of the one that a look-up finds.
+pub entry-of : (P : Option Ticket → Type 0) (call : ℕ) (o : Option Ticket) (entries : List (ℕ × Option Ticket)) → AllByRecursion (λ entry. P entry.1) entries → lookup (nat_eq call) entries ≡ Some o → P o
+entry-of P call o [] all e = absurd (cc)
+entry-of P call o ((number, x) ∷ xs) all e = elim (found_if (nat_eq call number) x o (lookup (nat_eq call) xs) e) [
+  | inl here ↦ subst P here.1 all.0
+  | inr there ↦ entry-of P call o xs all.1 there.1
+]
+
+-- ---- look-ups in one entry more
+
+pub lookup-more : (key : ℕ) (x : Option Ticket) (last : ℕ × Option Ticket) (entries : List (ℕ × Option Ticket)) → lookup (nat_eq key) entries ≡ Some x → lookup (nat_eq key) (entries ++ last ∷ []) ≡ Some x
+lookup-more key x last [] e = absurd (cc)
+lookup-more key x last ((number, o) ∷ xs) e = elim (found_if (nat_eq key number) o x (lookup (nat_eq key) xs) e) [
+  | inl here ↦ ap (λ b. if b then Some o else lookup (nat_eq key) (xs ++ last ∷ [])) here.0 ∙ ap Some here.1
+  | inr there ↦ ap (λ b. if b then Some o else lookup (nat_eq key) (xs ++ last ∷ [])) there.0 ∙ lookup-more key x last xs there.1
+]
+
+pub lookup-last : (key : ℕ) (x : Option Ticket) (entries : List (ℕ × Option Ticket)) → lookup (nat_eq key) entries ≡ None → lookup (nat_eq key) (entries ++ (key, x) ∷ []) ≡ Some x
+lookup-last key x [] e = ap (λ b. if b then Some x else None) (nat_eq-same key)
+  where
+    nat_eq-same : (n : ℕ) → nat_eq n n ≡ true
+    nat_eq-same n = grind (arith, nat_tests)
+lookup-last key x ((number, o) ∷ xs) e = by (nat_eq key number) refl e (λ h. lookup-last key x xs h)
+  where
+    by : (b : Bool) → nat_eq key number ≡ b → (if b then Some o else lookup (nat_eq key) xs) ≡ None → (lookup (nat_eq key) xs ≡ None → lookup (nat_eq key) (xs ++ (key, x) ∷ []) ≡ Some x)
+        → (if nat_eq key number then Some o else lookup (nat_eq key) (xs ++ (key, x) ∷ [])) ≡ Some x
+    by true t e again = absurd (cc)
+    by false t e again = ap (λ b. if b then Some o else lookup (nat_eq key) (xs ++ (key, x) ∷ [])) t ∙ again e
 
 -- ---- how many
 

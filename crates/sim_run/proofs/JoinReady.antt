@@ -1,5 +1,5 @@
 -- A join line of a replay.
-use Rattle.std.proofs.Common.{◌≡◌, ◌≢◌, ℕ, ◌^◌, ◌<◌, ◌≤◌, subst, nat_eq, List, [], ◌∷◌, length, find, Option, None, Some, ap, sym, refl, ◌∙◌}
+use Rattle.std.proofs.Common.{◌≡◌, ◌≢◌, ℕ, ◌+◌, ◌^◌, ◌<◌, ◌≤◌, subst, arith, nat_eq, List, [], ◌∷◌, length, find, Option, None, Some, ap, sym, refl, ◌∙◌}
 use Rattle.std.specs.Map.{lookup}
 use Rattle.rpc_model.specs.declared.script.Script.{Script}
 use Rattle.rpc_model.specs.declared.told.Told.{Told}
@@ -15,9 +15,13 @@ use Rattle.timer_core.specs.declared.mark.Mark.{Mark}
 use Rattle.sim_run.specs.Acting.{joined_by}
 use Rattle.std.specs.Option.{option_map}
 use Rattle.id_pool.specs.Answers.{value_says}
-use Rattle.sim_run.specs.Slots.{join, acts_by, IsJoinedEarly}
-use Rattle.sim_run.proofs.Entries.{find-standing}
-use Rattle.sim_run.specs.Desk.{stand, standing_at, standings, IsReady, replay_of}
+use Rattle.rpc_model.specs.State.{end_of}
+use Rattle.sim_run.specs.Slots.{finished, join, acts_by, IsJoinedEarly}
+use Rattle.sim_run.proofs.Entries.{find-standing, known-of, entry-of}
+use Rattle.sim_run.proofs.Acts.{joined-call}
+use Rattle.sim_run.proofs.Passing.{joined-speaks}
+use Rattle.sim_run.proofs.Wiring.{Works, wired-acts, joined-in}
+use Rattle.sim_run.specs.Desk.{stand, standing_at, standings, IsServedIn, AreWired, IsReady, replay_of}
 use Rattle.sim_run.proofs.Brings.{Brings}
 use Rattle.sim_run.proofs.JoinMarked.{join-marked}
 use Rattle.sim_run.proofs.Steps.{Follows}
@@ -74,6 +78,25 @@ join-brings script old after wires marks call ticket ready few found follows is 
     let set : marks ≡ (acts_by ticket.first (joined_by old.reached) (look ticket.first old.pool) old.wires.items old.marks).1 = ap (λ (p : List Link × List Mark). p.1) out in
     let left = join-marked old.reached old.pool old.wires.items old.marks old.calls.entries call ticket ready.sound few (sym found) ready.marked ready.owned in
     rw (is, set) (record { follows = follows; marked = left.marked; owned = left.owned })
+
+join-works : (slots : List (Slot Begun)) (ticket : Ticket) (reached : ℕ) → Works slots ticket (joined_by reached) (finished reached) (spec.joined reached)
+join-works slots ticket reached = record {
+  speaks = λ first a. joined-speaks reached first a;
+  call = λ first a. joined-call reached first a;
+  on_begun = λ b value state e. joined-in (end_of (finished reached b).state) (finished reached b) state e refl;
+  on_told = λ call. refl;
+}
+
+-- What such a join leaves of the wires.
+pub join-wired : (script : Script) (old : Replay) (after : List (Slot Begun)) (wires : List Link) (marks : List Mark) (call : ℕ) (ticket : Ticket) → IsReady script old → length old.calls.entries ≤ 500000 → Some (Some ticket) ≡ lookup (nat_eq call) old.calls.entries
+    → Follows old.pool after old.calls.entries call (spec.joined old.reached) → (wires, marks) ≡ acts_by ticket.first (joined_by old.reached) (look ticket.first old.pool) old.wires.items old.marks → AreWired script.servers after old.calls.entries wires
+join-wired script old after wires marks call ticket ready few found follows out =
+    let known = known-of old.pool call (Some ticket) old.calls.entries ready.sound.known (sym found) in
+    let same : ticket.first + 0 ≡ ticket.first = omega arith in
+    let d = joined_by old.reached in
+    let set : wires ≡ (acts_by ticket.first d (look ticket.first old.pool) old.wires.items old.marks).0 = ap (λ (p : List Link × List Mark). p.0) out in
+    let w = wired-acts script.servers old.pool after old.calls.entries old.wires.items old.marks call 0 ticket d (finished old.reached) (spec.joined old.reached) (join-works old.pool ticket old.reached) ready.sound few (sym found) known.0 (entry-of (IsServedIn script.servers) call (Some ticket) old.calls.entries ready.served (sym found)) follows ready.wired in
+    rw set (subst (λ id. AreWired script.servers after old.calls.entries (acts_by id d (look id old.pool) old.wires.items old.marks).0) same w)
 
 -- A join of a call that has a ticket reaches what the plain machine's does.
 pub join-early : (script : Script) (old : Replay) (call : ℕ) (ticket : Ticket) → IsReady script old → Some (Some ticket) ≡ lookup (nat_eq call) old.calls.entries

@@ -1,5 +1,6 @@
 pub mod Chans
 pub mod Leaves
+pub mod Attempts
 pub mod Setting
 pub mod Fit
 pub mod Later
@@ -15,6 +16,9 @@ pub mod JoinSteps
 pub mod Brings
 pub mod JoinMarked
 pub mod Begins
+pub mod Named
+pub mod Passing
+pub mod Wiring
 pub mod Streams
 pub mod Ready
 pub mod Replies

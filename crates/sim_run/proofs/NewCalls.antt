@@ -25,37 +25,18 @@ use Rattle.id_pool.specs.Ranges.{Slot, Vacant, Taken, Range, is_width, lowest, c
 use Rattle.timer_core.specs.declared.mark.Mark.{Mark}
 use Rattle.sim_run.specs.declared.ticket.Ticket.{Ticket}
 use Rattle.sim_run.specs.declared.state.Replay.{Replay}
+use Rattle.sim_run.specs.Sends.{posted}
 use Rattle.sim_run.specs.Marked.{marked, HasMarks, AreMarked, IsOwned, AreOwned}
 use Rattle.sim_run.specs.Desk.{standings, plan_of, width_of, IsSlot, IsServedIn, IsReady, replay_of}
 use Rattle.sim_run.proofs.Changes.{slice_get-change}
 use Rattle.sim_run.proofs.Apart.{same_or, slice_get-other}
 use Rattle.sim_run.proofs.Acts.{marks-set, all-has, has-marked, ids-set}
 use Rattle.sim_run.proofs.Fit.{begin-fit}
-use Rattle.sim_run.proofs.Entries.{found_if, slot-of-all}
+use Rattle.sim_run.proofs.Entries.{slot-of-all, lookup-more, lookup-last}
 use Rattle.sim_run.proofs.Steps.{plan-wide}
 use Rattle.sim_run.proofs.Begins.{Joined, lowest-at, all-taken, not-all-taken, call-begins, full-begins, All-snoc}
 use Rattle.sim_run.proofs.Brings.{slice_get-within}
-
--- ---- look-ups in one entry more
-
-lookup-more : (key : ℕ) (x : Option Ticket) (last : ℕ × Option Ticket) (entries : List (ℕ × Option Ticket)) → lookup (nat_eq key) entries ≡ Some x → lookup (nat_eq key) (entries ++ last ∷ []) ≡ Some x
-lookup-more key x last [] e = absurd (cc)
-lookup-more key x last ((number, o) ∷ xs) e = elim (found_if (nat_eq key number) o x (lookup (nat_eq key) xs) e) [
-  | inl here ↦ ap (λ b. if b then Some o else lookup (nat_eq key) (xs ++ last ∷ [])) here.0 ∙ ap Some here.1
-  | inr there ↦ ap (λ b. if b then Some o else lookup (nat_eq key) (xs ++ last ∷ [])) there.0 ∙ lookup-more key x last xs there.1
-]
-
-lookup-last : (key : ℕ) (x : Option Ticket) (entries : List (ℕ × Option Ticket)) → lookup (nat_eq key) entries ≡ None → lookup (nat_eq key) (entries ++ (key, x) ∷ []) ≡ Some x
-lookup-last key x [] e = ap (λ b. if b then Some x else None) (nat_eq-same key)
-  where
-    nat_eq-same : (n : ℕ) → nat_eq n n ≡ true
-    nat_eq-same n = grind (arith, nat_tests)
-lookup-last key x ((number, o) ∷ xs) e = by (nat_eq key number) refl e (λ h. lookup-last key x xs h)
-  where
-    by : (b : Bool) → nat_eq key number ≡ b → (if b then Some o else lookup (nat_eq key) xs) ≡ None → (lookup (nat_eq key) xs ≡ None → lookup (nat_eq key) (xs ++ (key, x) ∷ []) ≡ Some x)
-        → (if nat_eq key number then Some o else lookup (nat_eq key) (xs ++ (key, x) ∷ [])) ≡ Some x
-    by true t e again = absurd (cc)
-    by false t e again = ap (λ b. if b then Some o else lookup (nat_eq key) (xs ++ (key, x) ∷ [])) t ∙ again e
+use Rattle.sim_run.proofs.Wiring.{wired-begins, wired-full}
 
 -- ---- the pool's answer
 
@@ -141,7 +122,7 @@ all-owned-more entries call o (m ∷ ms) none all = (owned-more entries call o m
 
 pub call-ready : (old new : Replay) (script : Script) (call moment : ℕ) (ticket : Ticket) (text : List ℕ) → IsReady script old → length old.calls.entries ≤ 500000 → width_of ticket ≤ 1024 → AreServed script.servers (plan_of ticket) → lookup (nat_eq call) old.calls.entries ≡ None
     → (p : Place old.pool (width_of ticket) ticket.first (begin call (plan_of ticket) text moment)) → new.pool ≡ created (width_of ticket) (begin call (plan_of ticket) text moment) old.pool → new.calls.entries ≡ old.calls.entries ++ (call, Some ticket) ∷ []
-    → IsDistinct nat_eq (keys_of new.calls.entries) → new.marks ≡ marked ticket.first (start script_kinds (plan_of ticket) call text moment).marks old.marks → length new.wires.items ≡ length old.wires.items → IsReady script new
+    → IsDistinct nat_eq (keys_of new.calls.entries) → new.marks ≡ marked ticket.first (start script_kinds (plan_of ticket) call text moment).marks old.marks → new.wires.items ≡ posted ticket.first (plan_of ticket) call (start script_kinds (plan_of ticket) call text moment).sends old.wires.items → IsReady script new
 call-ready old new script call moment ticket text ready few narrow served none p made put once set wires =
     let plan = plan_of ticket in
     let run = start script_kinds plan call text moment in
@@ -167,7 +148,7 @@ call-ready old new script call moment ticket text ready few narrow served none p
     record {
       sound = rw put j.sound;
       pool = j.size ∙ ready.pool;
-      wires = wires ∙ ready.wires;
+      wired = rw (put, wires) (wired-begins script.servers old.pool new.pool old.calls.entries old.wires.items call moment ticket text none served j ready.wired);
       marked = rw (set, made, p.after) waits;
       owned = rw (put, set) owned;
       served = rw put (All-snoc (λ entry. IsServedIn script.servers entry.1) old.calls.entries (call, Some ticket) ready.served served);
@@ -201,7 +182,7 @@ full-ready old new script call ready absent_yet pool wires marks put once =
     record {
       sound = rw (pool, put) j.sound;
       pool = ap length pool ∙ ready.pool;
-      wires = rw wires ready.wires;
+      wired = rw (pool, put, wires) (wired-full script.servers old.pool old.pool old.calls.entries old.wires.items call absent_yet j ready.wired);
       marked = rw (pool, marks) ready.marked;
       owned = rw (put, marks) (all-owned-more old.calls.entries call None old.marks absent_yet ready.owned);
       served = rw put (All-snoc (λ entry. IsServedIn script.servers entry.1) old.calls.entries (call, None) ready.served tt);

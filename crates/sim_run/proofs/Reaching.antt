@@ -21,16 +21,18 @@ use Rattle.sim_run.specs.Link.{Link}
 use Rattle.sim_run.specs.Slots.{visit, visit_by, visited, turned, acts_by}
 use Rattle.sim_run.specs.Acting.{Acting, turned_by}
 use Rattle.sim_run.specs.Marked.{HasMark, HasMarks, AreMarked, IsOwned, AreOwned}
-use Rattle.sim_run.specs.Desk.{standings, IsSlot, IsSound, IsReady, replay_of, width_of}
+use Rattle.sim_run.specs.Desk.{standings, IsSlot, IsSound, IsServedIn, AreWired, IsReady, replay_of, width_of}
 use Rattle.sim_run.proofs.Later.{turned-later}
 use Rattle.sim_run.proofs.Fit.{turned-fit, weave-rest}
 use Rattle.sim_run.proofs.Acts.{HasIf, turned-call, turned-marked, all-if}
-use Rattle.sim_run.proofs.Fewer.{turned-fewer, acts-wires, left_in, total_left, total-change}
+use Rattle.sim_run.proofs.Fewer.{turned-fewer, left_in, total_left, total-change}
 use Rattle.sim_run.proofs.Changes.{look-at, seen-taken}
-use Rattle.sim_run.proofs.Entries.{slot-of-all, known-of}
+use Rattle.sim_run.proofs.Entries.{slot-of-all, known-of, entry-of}
 use Rattle.sim_run.proofs.Steps.{lives, most, Changes, Follows, change-moved, finds-in, offset-in, is-over, over-look, over-nothing}
 use Rattle.sim_run.proofs.Brings.{Brings, found, marked-step, own-ids}
 use Rattle.sim_run.proofs.Marked.{was-due, drop-mark}
+use Rattle.sim_run.proofs.Passing.{turned-speaks}
+use Rattle.sim_run.proofs.Wiring.{Works, wired-acts}
 use Rattle.sim_run.proofs.Ready.{ready-brings}
 
 -- To settle one call first makes no difference.
@@ -69,6 +71,9 @@ past-marks moment first mark (w ∷ ws) rest due all = (by all.0, past-marks mom
 
 wakes : (slots : List (Slot Begun)) (ticket : Ticket) (moment : ℕ) → Changes slots ticket (turned (turn.Due moment)) (settle moment)
 wakes slots ticket moment = record { on_begun = λ b e. refl; on_told = λ call. refl; later = λ b. turned-later (turn.Due moment) b; fit = λ n b fit. turned-fit n (turn.Due moment) b fit }
+
+due-works : (slots : List (Slot Begun)) (ticket : Ticket) (moment : ℕ) → Works slots ticket (turned_by (turn.Due moment)) (turned (turn.Due moment)) (settle moment)
+due-works slots ticket moment = record { speaks = λ first a. turned-speaks (turn.Due moment) first a; call = λ first a. turned-call (turn.Due moment) first a; on_begun = λ b value state e. e; on_told = λ call. refl }
 
 -- what a mark that is taken leaves: of slots and marks, and fewer of what may come
 pub record Wakes (slots after : List (Slot Begun)) (rest marks : List Mark) (entries : List (ℕ × Option Ticket)) (call moment : ℕ) : Type 0 where
@@ -177,17 +182,20 @@ reaching-turn script old now new moment mark r few is_due reached calls pool act
     let own = all.0 in
     let t = turn.Due moment in
     let marks_are : new.marks ≡ (acts_by mark.id (turned_by t) (look mark.id now.pool) now.wires.items rest).1 = ap (λ (p : List Link × List Mark). p.1) acts in
-    let wires_are : length new.wires.items ≡ length now.wires.items = ap (λ (p : List Link × List Mark). length p.0) acts ∙ acts-wires mark.id (turned_by t) (look mark.id now.pool) now.wires.items rest (λ first a. turned-fewer t first a) in
     let woke = mark-taken now.pool now.wires.items now.calls.entries own.call own.place moment own.ticket mark rest r.ready.sound few own.found own.within own.is was.due (subst (λ ms. AreMarked ms now.pool) was.is r.ready.marked) all.1 in
     let here : Wakes now.pool new.pool rest new.marks now.calls.entries own.call moment =
     rw (pool, marks_are) (subst (λ i. Wakes now.pool (changed (visit (turned t) (version_of i)) i now.pool) rest (acts_by i (turned_by t) (look i now.pool) now.wires.items rest).1 now.calls.entries own.call moment) (sym own.is) woke) in
+    let wires_are : new.wires.items ≡ (acts_by mark.id (turned_by t) (look mark.id now.pool) now.wires.items rest).0 = ap (λ (p : List Link × List Mark). p.0) acts in
+    let w = wired-acts script.servers now.pool new.pool now.calls.entries now.wires.items rest own.call own.place own.ticket (turned_by t) (turned t) (settle moment) (due-works now.pool own.ticket moment) r.ready.sound few own.found own.within (entry-of (IsServedIn script.servers) own.call (Some own.ticket) now.calls.entries r.ready.served own.found) here.brought.follows r.ready.wired in
+    let wired : AreWired script.servers new.pool now.calls.entries new.wires.items =
+    rw wires_are (subst (λ i. AreWired script.servers new.pool now.calls.entries (acts_by i (turned_by t) (look i now.pool) now.wires.items rest).0) (sym own.is) w) in
     let stood : map (settle moment) (standings new.pool now.calls.entries) ≡ map (settle moment) (standings now.pool now.calls.entries) = ap (map (settle moment)) here.brought.follows.stands ∙ settle-first (is_call own.call) moment (standings now.pool now.calls.entries) in
     let moments : new.reached ≡ moment = reached ∙ r.reached in
     let l = ap length was.is in
     let less = here.fewer in
     record {
       reaching = record {
-        ready = ready-brings script now new own.call (settle moment) r.ready here.brought calls wires_are;
+        ready = ready-brings script now new own.call (settle moment) r.ready here.brought calls wired;
         reached = moments;
         calls = calls ∙ r.calls;
         alike = same-settled now new moment r.reached moments calls stood ∙ r.alike;

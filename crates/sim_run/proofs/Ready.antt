@@ -4,7 +4,7 @@ use Rattle.std.specs.List.{IsDistinct, AllByRecursion}
 use Rattle.std.specs.Map.{lookup}
 use Rattle.rpc_model.specs.declared.event.Event.{Event}
 use Rattle.rpc_model.specs.declared.script.Script.{Script}
-use Rattle.rpc_model.specs.Marks.{Begun, weave}
+use Rattle.rpc_model.specs.Marks.{Begun, apply, weave}
 use Rattle.rpc_model.specs.Told as spec
 use Rattle.id_pool.specs.Ids.{version_of}
 use Rattle.id_pool.specs.Ranges.{Slot, Vacant, Taken, Range, changed, look, opened}
@@ -16,10 +16,13 @@ use Rattle.sim_run.specs.declared.turn.Turn.TheVariants as turn
 use Rattle.sim_run.specs.Slots.{visit, turned, acts_by}
 use Rattle.sim_run.specs.Acting.{turned_by}
 use Rattle.sim_run.specs.Marked.{AreMarked, AreSettled}
-use Rattle.sim_run.specs.Desk.{is_taken, IsSlot, IsSound, IsReady, replay_of, ticket_in}
-use Rattle.sim_run.proofs.Entries.{count-cons, known-of}
+use Rattle.sim_run.specs.Desk.{is_taken, IsSlot, IsSound, IsServedIn, AreWired, IsReady, replay_of, ticket_in}
+use Rattle.sim_run.proofs.Entries.{count-cons, known-of, entry-of}
 use Rattle.sim_run.proofs.Steps.{Follows, IsSettledAt, most, lives, event-changes, event-nothing}
 use Rattle.sim_run.proofs.Brings.{Brings, brings, turn-does}
+use Rattle.sim_run.proofs.Acts.{turned-call}
+use Rattle.sim_run.proofs.Passing.{turned-speaks}
+use Rattle.sim_run.proofs.Wiring.{Works, wired-acts}
 
 -- ---- a new replay
 
@@ -57,11 +60,11 @@ opened-marked n slots marks is slot r at = absurd (opened-vacant n slot r (sym (
 
 -- A step of one call leaves a replay ready.
 pub ready-brings : (script : Script) (old new : Replay) (call : ℕ) (f : spec.Standing → spec.Standing) → IsReady script old → Brings old.pool new.pool new.marks old.calls.entries call f → new.calls ≡ old.calls
-    → length new.wires.items ≡ length old.wires.items → IsReady script new
-ready-brings script old new call f ready brought calls wires = record {
+    → AreWired script.servers new.pool old.calls.entries new.wires.items → IsReady script new
+ready-brings script old new call f ready brought calls wired = record {
   sound = rw calls brought.follows.sound;
   pool = brought.follows.size ∙ ready.pool;
-  wires = wires ∙ ready.wires;
+  wired = rw calls wired;
   marked = brought.marked;
   owned = rw calls brought.owned;
   served = rw calls ready.served;
@@ -102,6 +105,29 @@ own-event script old after wires marks call ticket event ready few settled found
     let moved = brings old.pool old.wires.items old.marks old.calls.entries call ticket (turned_by t) (turned t) f 0 (turn-does t) does ready.sound few looked known.0 ready.marked ready.owned in
     let set : marks ≡ (acts_by ticket.first (turned_by t) (look ticket.first old.pool) old.wires.items old.marks).1 = ap (λ (p : List Link × List Mark). p.1) out in
     rw (is, set) (subst (λ id. Brings old.pool (changed (visit (turned t) (version_of id)) id old.pool) (acts_by id (turned_by t) (look id old.pool) old.wires.items old.marks).1 old.calls.entries call f) same moved)
+
+-- An event works as the machine's, where no mark of the call is due.
+pub event-works : (slots : List (Slot Begun)) (ticket : Ticket) (event : Event) (moment : ℕ) → IsSettledAt moment slots ticket → Works slots ticket (turned_by (turn.Event event moment)) (turned (turn.Event event moment)) (spec.event_after event moment)
+event-works slots ticket event moment settled = record {
+  speaks = λ first a. turned-speaks (turn.Event event moment) first a;
+  call = λ first a. turned-call (turn.Event event moment) first a;
+  on_begun = λ b value state e. ap (λ (d : Begun). (apply d event moment).state) (settled b value) ∙ e;
+  on_told = λ call. refl;
+}
+
+-- What an event that comes by the call's own id leaves of the wires.
+pub own-wired : (script : Script) (old : Replay) (after : List (Slot Begun)) (wires : List Link) (marks : List Mark) (call : ℕ) (ticket : Ticket) (event : Event) → IsReady script old → length old.calls.entries ≤ 500000 → AreSettled old.reached old.pool
+    → Some ticket ≡ ticket_in (lookup (nat_eq call) old.calls.entries) → Follows old.pool after old.calls.entries call (spec.event_after event old.reached)
+    → (wires, marks) ≡ acts_by ticket.first (turned_by (turn.Event event old.reached)) (look ticket.first old.pool) old.wires.items old.marks → AreWired script.servers after old.calls.entries wires
+own-wired script old after wires marks call ticket event ready few settled found follows out =
+    let looked = some_ticket (lookup (nat_eq call) old.calls.entries) ticket (sym found) in
+    let known = known-of old.pool call (Some ticket) old.calls.entries ready.sound.known looked in
+    let same : ticket.first + 0 ≡ ticket.first = omega arith in
+    let t = turn.Event event old.reached in
+    let works = event-works old.pool ticket event old.reached (settled-at old.reached old.pool old.calls.entries call ticket settled ready.sound looked) in
+    let set : wires ≡ (acts_by ticket.first (turned_by t) (look ticket.first old.pool) old.wires.items old.marks).0 = ap (λ (p : List Link × List Mark). p.0) out in
+    let w = wired-acts script.servers old.pool after old.calls.entries old.wires.items old.marks call 0 ticket (turned_by t) (turned t) (spec.event_after event old.reached) works ready.sound few looked known.0 (entry-of (IsServedIn script.servers) call (Some ticket) old.calls.entries ready.served looked) follows ready.wired in
+    rw set (subst (λ id. AreWired script.servers after old.calls.entries (acts_by id (turned_by t) (look id old.pool) old.wires.items old.marks).0) same w)
 
 -- An event of a call without a ticket.
 pub no-event : (script : Script) (old : Replay) (call : ℕ) (event : Event) (moment : ℕ) → IsReady script old → None ≡ ticket_in (lookup (nat_eq call) old.calls.entries)

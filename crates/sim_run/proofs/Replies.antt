@@ -23,26 +23,20 @@ use Rattle.sim_run.specs.declared.turn.Turn.TheVariants as turn
 use Rattle.sim_run.specs.Link.{Link}
 use Rattle.timer_core.specs.declared.mark.Mark.{Mark}
 use Rattle.sim_run.specs.Acting.{turned_by}
+use Rattle.sim_run.specs.Sends.{server_to}
+use Rattle.sim_run.specs.Wires.{on_wire}
 use Rattle.sim_run.specs.Slots.{visit, visit_by, turned, meant, brought, brought_to, brings_to, brought_wires, acts_by}
 use Rattle.sim_run.specs.Marked.{AreSettled}
-use Rattle.sim_run.specs.Desk.{attempt_id, plan_of, width_of, IsNumbered, IsOfSlot, IsSlot, IsSound, IsReady, ticket_in}
-use Rattle.sim_run.proofs.Fewer.{turned-fewer, acts-wires}
+use Rattle.sim_run.specs.Desk.{attempt_id, plan_of, width_of, IsNumbered, IsOfSlot, IsSlot, IsSound, IsServedIn, AreWired, IsReady, ticket_in, event_wires, wires_by, attempt_wires}
 use Rattle.sim_run.proofs.Changes.{look-at}
 use Rattle.sim_run.proofs.Apart.{high_half}
-use Rattle.sim_run.proofs.Entries.{found_if, known-of}
-use Rattle.sim_run.proofs.Steps.{most, lives, is-over, over-look, over-nothing, event-changes}
+use Rattle.sim_run.proofs.Entries.{known-of, entry-of}
+use Rattle.sim_run.proofs.Steps.{most, Follows, lives, is-over, over-look, over-nothing, event-changes}
 use Rattle.sim_run.proofs.Brings.{slice_get-within, found, Brings, brings, turn-does}
-use Rattle.sim_run.proofs.Ready.{some_ticket, settled-at}
+use Rattle.sim_run.proofs.Wiring.{wired-acts}
+use Rattle.sim_run.proofs.Ready.{some_ticket, settled-at, event-works}
 
 -- ---- where ids lie
-
--- What holds of each entry holds of the one that a look-up finds.
-pub entry-of : (P : Option Ticket → Type 0) (call : ℕ) (o : Option Ticket) (entries : List (ℕ × Option Ticket)) → AllByRecursion (λ entry. P entry.1) entries → lookup (nat_eq call) entries ≡ Some o → P o
-entry-of P call o [] all e = absurd (cc)
-entry-of P call o ((number, x) ∷ xs) all e = elim (found_if (nat_eq call number) x o (lookup (nat_eq call) xs) e) [
-  | inl here ↦ subst P here.1 all.0
-  | inr there ↦ entry-of P call o xs all.1 there.1
-]
 
 -- where a ticket's ids lie: below the ids of 4,096 slots
 pub record IsLow (ticket : Ticket) : Type 0 where
@@ -139,11 +133,32 @@ attempt-brings script old wires call ticket node attempt id what ready few settl
     let set : (brought_wires what old.reached (ticket.first + n.offset) old.pool wires old.marks).1 ≡ (acts_by (ticket.first + n.offset) (turned_by t) (look (ticket.first + n.offset) old.pool) wires old.marks).1 = ap (λ (p : List Link × List Mark). p.1) same.acts_are in
     rw (n.is, same.slots_are, set) moved
 
--- As many wires are left.
-pub brought-wires : (what : ℕ → ℕ → Event) (moment id : ℕ) (slots : List (Slot Begun)) (wires : List Link) (marks : List Mark) → length (brought_wires what moment id slots wires marks).0 ≡ length wires
-brought-wires what moment id slots wires marks = by (meant (look id slots))
-  where
-    by : (o : Option Meaning) → length (brings_to o what moment id slots wires marks).0 ≡ length wires
-    by None = refl
-    by (Some (Node node)) = refl
-    by (Some (Attempt node attempt)) = acts-wires id (turned_by (turn.Event (what node attempt) moment)) (look id slots) wires marks (λ first a. turned-fewer (turn.Event (what node attempt) moment) first a)
+-- What is left of the wires. They were already those after the reply came in, or the attempt was lost.
+pub attempt-wired : (script : Script) (old : Replay) (wires : List Link) (call : ℕ) (ticket : Ticket) (node attempt id : ℕ) (what : ℕ → ℕ → Event) → IsReady script old → length old.calls.entries ≤ 500000 → AreSettled old.reached old.pool
+    → Some ticket ≡ ticket_in (lookup (nat_eq call) old.calls.entries) → Some id ≡ attempt_id ticket node attempt → AreWired script.servers old.pool old.calls.entries wires
+    → Follows old.pool (brought what old.reached id old.pool) old.calls.entries call (spec.event_after (what node attempt) old.reached)
+    → AreWired script.servers (brought what old.reached id old.pool) old.calls.entries (brought_wires what old.reached id old.pool wires old.marks).0
+attempt-wired script old wires call ticket node attempt id what ready few settled found' named wired follows =
+    let n = names ticket node attempt id named in
+    let looked = some_ticket (lookup (nat_eq call) old.calls.entries) ticket (sym found') in
+    let t = turn.Event (what node attempt) old.reached in
+    let f = spec.event_after (what node attempt) old.reached in
+    let works = event-works old.pool ticket (what node attempt) old.reached (settled-at old.reached old.pool old.calls.entries call ticket settled ready.sound looked) in
+    let after = brought what old.reached id old.pool in
+    let w = wired-acts script.servers old.pool after old.calls.entries wires old.marks call n.offset ticket (turned_by t) (turned t) f works ready.sound few looked n.within (entry-of (IsServedIn script.servers) call (Some ticket) old.calls.entries ready.served looked) follows wired in
+    let same = is-brought old.pool wires old.marks old.calls.entries call ticket node attempt n.offset old.reached what ready.sound few looked n.within n.means in
+    let set : (brought_wires what old.reached (ticket.first + n.offset) old.pool wires old.marks).0 ≡ (acts_by (ticket.first + n.offset) (turned_by t) (look (ticket.first + n.offset) old.pool) wires old.marks).0 = ap (λ (p : List Link × List Mark). p.0) same.acts_are in
+    let here : AreWired script.servers after old.calls.entries (brought_wires what old.reached (ticket.first + n.offset) old.pool wires old.marks).0 = rw set w in
+    subst (λ i. AreWired script.servers after old.calls.entries (brought_wires what old.reached i old.pool wires old.marks).0) (sym n.is) here
+
+-- The wires after a reply or a loss that came by its attempt's id, and after one that named no attempt.
+pub aimed-wires : (change : ℕ → Link → Link) (what : ℕ → ℕ → Event) (old : Replay) (new came : List Link) (ticket : Ticket) (call node attempt id server : ℕ) → new ≡ (brought_wires what old.reached id old.pool came old.marks).0
+    → came ≡ on_wire server (change id) old.wires.items → server ≡ server_to (plan_of ticket) call node attempt → Some id ≡ attempt_id ticket node attempt → new ≡ attempt_wires change what (Some ticket) call node attempt old
+aimed-wires change what old new came ticket call node attempt id server is wire to named =
+    is ∙ ap (λ ws. (brought_wires what old.reached id old.pool ws old.marks).0) wire ∙ ap (λ s. wires_by (Some id) change what ticket s node attempt old) to
+    ∙ ap (λ o. wires_by o change what ticket (server_to (plan_of ticket) call node attempt) node attempt old) named
+
+pub unaimed-wires : (change : ℕ → Link → Link) (what : ℕ → ℕ → Event) (old : Replay) (new : List Link) (ticket : Ticket) (call node attempt : ℕ) → new ≡ event_wires (Some ticket) (what node attempt) old → attempt_id ticket node attempt ≡ None
+    → new ≡ attempt_wires change what (Some ticket) call node attempt old
+unaimed-wires change what old new ticket call node attempt is none =
+    is ∙ ap (λ o. wires_by o change what ticket (server_to (plan_of ticket) call node attempt) node attempt old) (sym none)

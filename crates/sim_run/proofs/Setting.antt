@@ -3,7 +3,7 @@ use Rattle.std.proofs.Common.{◌≡◌, ℕ, zero, suc, ◌+◌, ◌<◌, ◌�
 use Rattle.rpc_model.specs.Effects.{Mark}
 use Rattle.rpc_model.specs.Marks.{is_before, set_mark}
 use Rattle.sim_run.specs.Link.{Link}
-use Rattle.sim_run.specs.Wires.{on_wire}
+use Rattle.sim_run.specs.Wires.{idle_wire, idle_wires, on_wire}
 
 -- A mark that isn't set before the one at a place is set behind it.
 behind-suc : (mark : Mark) (ws : List Mark) (i : ℕ) (d : Mark) → i < length ws → is_before mark (get_or ws i d) ≡ false → take i ws ++ set_mark mark (drop i ws) ≡ take (suc i) ws ++ set_mark mark (drop (suc i) ws)
@@ -38,3 +38,8 @@ pub past-on_wire : (ws : List Link) (server : ℕ) (f : Link → Link) → lengt
 past-on_wire [] server f more = refl
 past-on_wire (x ∷ ws) zero f more = absurd (omega (arith, more))
 past-on_wire (x ∷ ws) (suc server) f more = ap (λ ys. x ∷ ys) (past-on_wire ws server f (omega (arith, more)))
+
+-- One wire more, on which nothing passed.
+pub idle-snoc : (n : ℕ) → idle_wires n ++ idle_wire ∷ [] ≡ idle_wires (suc n)
+idle-snoc zero = refl
+idle-snoc (suc n) = ap (λ ws. idle_wire ∷ ws) (idle-snoc n)

@@ -29,6 +29,10 @@ spelled-once law at f low fits typed =
     let all : all_bytes (f ∷ []) ++ [] ≡ frame_bytes f = append-nil (all_bytes (f ∷ [])) ∙ append-nil (frame_bytes f) in
     sym (ap (frames at) all) ∙ law at (f ∷ []) [] low (All-cons (λ f. IsFitting f × IsTyped f.meta) f [] (fits, typed) (All-nil (λ f. IsFitting f × IsTyped f.meta)))
 
+pub one-frame : (f : Frame) → all_bytes (f ∷ []) ≡ frame_bytes f
+unfolding all_bytes
+one-frame f = append-nil (frame_bytes f)
+
 -- A frame's bytes, fed to such a stream, are that frame.
 pub fed-frame : BeginsWithSpelled → (s : Stream) (f : Frame) → IsIdle s → IsFitting f → IsTyped f.meta → fed s (frame_bytes f) ≡ holding (later s.at (length (all_bytes (f ∷ [])))) f
 unfolding fed
@@ -58,7 +62,7 @@ pub feed-taken : BeginsWithSpelled → (s t : Stream) (f : Frame) (piece : List 
 feed-taken law s t f piece done idle fits typed is takes = takes.0 ∙ ap (fed s) is ∙ fed-frame law s f idle fits typed
 
 -- That frame is handed out, and the stream is as before.
-pub handed-out : (at : ℕ) (f g : Frame) (s t : Stream) → at < 2 ^ 64 → s ≡ holding at f → HandsOut s (Some g) t → (g ≡ f) × IsIdle t
+pub handed-out : (at : ℕ) (f g : Frame) (s t : Stream) → at < 2 ^ 64 → s ≡ holding at f → HandsOut s (Some g) t → (g ≡ f) × IsIdle t × (t.at ≡ at)
 handed-out at f g s t low is out =
     let both : before g t ≡ holding at f = sym out ∙ is in
     let frames' : g ∷ t.frames ≡ f ∷ [] = ap (λ (x : Stream). x.frames) both in
@@ -70,6 +74,7 @@ handed-out at f g s t low is out =
         fault = ap (λ (x : Stream). x.fault) both;
         place = rw (ap (λ (x : Stream). x.at) both) low;
       },
+      ap (λ (x : Stream). x.at) both,
     )
 
 -- ---- a reply fits

@@ -1,6 +1,7 @@
 pub mod Link
 pub mod Wires
 pub mod Sends
+pub mod Passages
 pub mod Marked
 pub mod Acting
 pub mod Calls

@@ -1,4 +1,4 @@
--- A wire: what went out on it, and which ids wait for a reply; and how a reply is spelled as a frame, by brpc's baidu_std document.
+-- A wire: what went out on it, which ids wait for a reply, and how far what came in was read; and how a reply is spelled as a frame, by brpc's baidu_std document.
 use Rattle.std.specs.Prelude.{◌≡◌, ℕ, ◌^◌, ◌<◌, ℤ, pos, negsuc, List, [], Option, None, Some}
 use Rattle.rpc_model.specs.declared.sent.Sent.{Sent}
 use Rattle.rpc_meta.specs.Meta.Answer.{reply_code_of}
@@ -6,10 +6,11 @@ use Rattle.prpc_frames.specs.declared.frame.Frame.{Frame}
 use Rattle.prpc_frames.specs.Stream.Reading.{Stream}
 use Rattle.sim_run.specs.declared.wire.Reply.{Reply}
 
--- the requests that went out, and the ids that wait, each with its call
+-- the requests that went out; the ids that wait, each with its call; and how many bytes of frames were read
 pub record Link : Type 0 where
   pub out : List Sent
   pub waiting : List (ℕ × ℕ)
+  pub read : ℕ
 
 -- every frame that came was taken, and none came in part
 pub record IsIdle (stream : Stream) : Type 0 where

@@ -13,7 +13,7 @@ ghost use Rattle.rpc_model.specs.Told as spec;
 ghost use Rattle.rpc_model.specs.declared.event.Event.TheVariants as event;
 ghost use Rattle.rpc_model.specs.Early.{settled};
 ghost use Rattle.call_tree.specs.Running.{IsEffects};
-ghost use Rattle.sim_run.specs.Desk.{IsReady, replay_of, ticket_in, IsNew, plan_of};
+ghost use Rattle.sim_run.specs.Desk.{IsReady, replay_of, ticket_of, IsNew, plan_of, event_wires, reply_wires, loss_wires, join_wires};
 ghost use Rattle.sim_run.specs.Marked.{AreSettled, marked};
 ghost use Rattle.sim_run.specs.Sends.{posted};
 ghost use Rattle.rpc_model.specs.declared.told.Told.TheVariants.{Full as full};
@@ -65,7 +65,7 @@ impl Replay {
 
     /// The ticket of a call that took a slot.
     fn ticket(&self, call: u32) -> Option<&Ticket>
-        ensures { option_map (λ t. t.now) result ≡ ticket_in (lookup (nat_eq call) self.now.calls.entries) }
+        ensures { option_map (λ t. t.now) result ≡ ticket_of call self.now }
     {
         match self.calls.get(&call) {
             None => None,
@@ -109,6 +109,7 @@ impl Replay {
         requires early { self.old.reached < 2 ^ 60 }
         ensures ready { OnOk result (IsReady script.now self.new) }
         ensures after { OnOk result (replay_of self.new ≡ spec.call_event (replay_of self.old) self.old.reached call event) }
+        ensures wires { OnOk result (self.new.wires.items ≡ event_wires (ticket_of call self.old) event self.old) }
         ensures calls { OnOk result (self.new.calls ≡ self.old.calls) }
     {
         let Some(ticket) = self.ticket(call) else {
@@ -217,6 +218,7 @@ impl Replay {
         requires text { length text.now ≤ 60000 }
         ensures ready { OnOk result (IsReady script.now self.new) }
         ensures after { OnOk result (replay_of self.new ≡ spec.call_event (replay_of self.old) self.old.reached call (event.Reply node attempt code text.now)) }
+        ensures wires { OnOk result (self.new.wires.items ≡ reply_wires (ticket_of call self.old) call node attempt code text.now self.old) }
         ensures calls { OnOk result (self.new.calls ≡ self.old.calls) }
     {
         let Some(ticket) = self.ticket(call) else {
@@ -261,6 +263,7 @@ impl Replay {
         requires early { self.old.reached < 2 ^ 60 }
         ensures ready { OnOk result (IsReady script.now self.new) }
         ensures after { OnOk result (replay_of self.new ≡ spec.call_event (replay_of self.old) self.old.reached call (event.Lost node attempt code)) }
+        ensures wires { OnOk result (self.new.wires.items ≡ loss_wires (ticket_of call self.old) call node attempt code self.old) }
         ensures calls { OnOk result (self.new.calls ≡ self.old.calls) }
     {
         let Some(ticket) = self.ticket(call) else {
@@ -296,6 +299,7 @@ impl Replay {
         requires early { (spec.call_join (replay_of self.old) call).reached < 2 ^ 60 }
         ensures ready { OnOk result (IsReady script.now self.new) }
         ensures after { OnOk result (replay_of self.new ≡ spec.call_join (replay_of self.old) call) }
+        ensures wires { OnOk result (self.new.wires.items ≡ join_wires (ticket_of call self.old) self.old) }
         ensures calls { OnOk result (self.new.calls ≡ self.old.calls) }
         ensures tells { OnOk result (told.new.items ≡ told.old.items ++ spec.join_tells (replay_of self.old).reached (find (spec.is_call call) (replay_of self.old).calls)) }
         ensures kept { OnErr result (told.new.items ≡ told.old.items) }

@@ -1,4 +1,4 @@
-ghost use Rattle.std.specs.Prelude.{◌≡◌, ◌+◌, ◌^◌, ◌<◌, Some, IfSome};
+ghost use Rattle.std.specs.Prelude.{◌≡◌, ◌+◌, ◌^◌, ◌<◌, Some, None, IfSome, IfNone};
 ghost use Rattle.sim_run.specs.Desk.{plan_of, attempt_id, IsServed};
 ghost use Rattle.sim_run.specs.Sends.{server_to};
 
@@ -30,6 +30,7 @@ impl Ticket {
         ensures id { IfSome result (λ aim. Some aim.id ≡ attempt_id self.now node attempt) }
         ensures server { IfSome result (λ aim. aim.server ≡ server_to (plan_of self.now) call node attempt) }
         ensures bound { IfSome result (λ aim. aim.server < servers) }
+        ensures none { IfNone result (attempt_id self.now node attempt ≡ None) }
         ensures near { IfSome result (λ aim. aim.id < self.now.first + 2 ^ 32) }
     {
         let leaf = self.plan.leaf(node)?;

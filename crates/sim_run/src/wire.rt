@@ -1,7 +1,8 @@
-ghost use Rattle.std.specs.Prelude.{◌≡◌, ◌^◌, ◌<◌, ◌≤◌, [], length, IfOk, IfSome, OnOk, OnErr};
-ghost use Rattle.sim_run.specs.Wires.{sent, received};
+ghost use Rattle.std.specs.Prelude.{◌≡◌, ◌^◌, ◌<◌, ◌≤◌, length, IfOk, IfSome, OnOk, OnErr};
+ghost use Rattle.sim_run.specs.Wires.{idle_wire, sent, received, lost};
 ghost use Rattle.sim_run.specs.Link.{reply_frame, reply_in};
-ghost use Rattle.prpc_frames.specs.Stream.Spelling.{IsFitting, IsTyped};
+ghost use Rattle.prpc_frames.specs.Stream.Reading.{later};
+ghost use Rattle.prpc_frames.specs.Stream.Spelling.{frame_bytes, IsFitting, IsTyped};
 
 use link_core::{Outlog, Outstanding};
 use prpc_frames::{Frame, Frames, begins_with_spelled, write_frame};
@@ -32,14 +33,14 @@ impl Model for Wire {
 
     ghost Value = { Link };
 
-    ghost view = { λ w. record { out = w.out; waiting = w.outstanding } };
+    ghost view = { λ w. record { out = w.out; waiting = w.outstanding; read = w.frames.at } };
 
     ghost invariant = { λ w. IsIdle w.frames };
 }
 
 impl Wire {
     pub(crate) fn open(alloc: Global) -> Result<Wire, NoMemory>
-        ensures { IfOk result (λ w. w ≡ record { out = []; waiting = [] }) }
+        ensures { IfOk result (λ w. w ≡ idle_wire) }
     {
         Ok(Wire {
             alloc,
@@ -65,7 +66,7 @@ impl Wire {
         requires code { code ≤ 65535 }
         requires text { length text.now ≤ 60000 }
         ensures reply { IfOk result (λ r. r ≡ record { id = id; code = code; text = text.now }) }
-        ensures wire { OnOk result (self.new ≡ received id self.old) }
+        ensures wire { OnOk result (self.new ≡ received (record { id = id; code = code; text = text.now }) self.old) }
     {
         let text = Bytes::of(Vec::from_slice(self.alloc, text.list())?);
         let sent = frame_of(self.alloc, Reply { id, code, text });
@@ -78,17 +79,17 @@ impl Wire {
 
     /// An attempt is lost: its id doesn't wait any more.
     pub(crate) fn forget(&mut self, id: u64)
-        ensures { self.new ≡ received id self.old }
+        ensures { self.new ≡ lost id self.old }
     {
         self.outstanding.remove(id);
     }
 
-    /// The frame that comes in where this one is written.
+    /// The frame that comes in where this one is written, read from its bytes.
     fn pass(&mut self, frame: &Frame) -> Result<Frame, NoMemory>
         requires fitting { IsFitting frame.now }
         requires typed { IsTyped frame.now.meta }
         ensures frame { IfOk result (λ f. f ≡ frame.now) }
-        ensures wire { self.new ≡ self.old }
+        ensures wire { OnOk result (self.new ≡ record self.old { read = later self.old.read (length (frame_bytes frame.now)) }) }
     {
         begins_with_spelled();
         let mut bytes = Vec::new(self.alloc);

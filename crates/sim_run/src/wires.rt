@@ -2,7 +2,7 @@
 
 ghost use Rattle.std.specs.Prelude.{◌≡◌, ◌^◌, ◌<◌, ◌≤◌, length, IfOk, OnOk};
 ghost use Rattle.rpc_model.specs.Effects.{server_of};
-ghost use Rattle.sim_run.specs.Wires.{on_wire, sent, received};
+ghost use Rattle.sim_run.specs.Wires.{idle_wires, on_wire, sent, received, lost};
 
 use crate::wire::{Reply, Wire};
 use rpc_base::{Bytes, NoMemory};
@@ -11,7 +11,7 @@ use std::alloc::Global;
 
 /// A wire for each server.
 pub(crate) fn open_wires(alloc: Global, servers: u32) -> Result<Vec<Wire>, NoMemory>
-    ensures { IfOk result (λ wires. length wires.items ≡ servers) }
+    ensures { IfOk result (λ wires. wires.items ≡ idle_wires servers) }
 {
     let mut wires = Vec::with_capacity(alloc, servers as usize)?;
     for _server in 0..servers {
@@ -60,14 +60,14 @@ pub(crate) fn receive(
     requires code { code ≤ 65535 }
     requires text { length text.now ≤ 60000 }
     ensures reply { IfOk result (λ r. r ≡ record { id = id; code = code; text = text.now }) }
-    ensures wire { OnOk result (wires.new.items ≡ on_wire server (received id) wires.old.items) }
+    ensures wire { OnOk result (wires.new.items ≡ on_wire server (received (record { id = id; code = code; text = text.now })) wires.old.items) }
 {
     wires[server as usize].receive(id, code, text)
 }
 
 /// An attempt at a server is lost.
 pub(crate) fn forget(wires: &mut Vec<Wire>, server: u32, id: u64)
-    ensures { wires.new.items ≡ on_wire server (received id) wires.old.items }
+    ensures { wires.new.items ≡ on_wire server (lost id) wires.old.items }
 {
     if (server as usize) < wires.len() {
         wires[server as usize].forget(id);

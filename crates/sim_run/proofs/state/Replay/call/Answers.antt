@@ -1,5 +1,5 @@
 -- The call takes the lowest vacant slot, or finds none.
-use Rattle.std.proofs.Common.{◌≡◌, sym, ap, subst, length, ◌∙◌}
+use Rattle.std.proofs.Common.{◌≡◌, sym, ap, subst, ◌∙◌}
 use Rattle.std.specs.Arc.{arc_value}
 use Rattle.std.proofs.lemmas.List.{append-nil}
 use Rattle.rpc_model.specs.Kinds.{script_kinds}
@@ -9,8 +9,8 @@ use Rattle.rpc_model.specs.Versions.{width}
 use Rattle.id_pool.specs.Ranges.{created}
 use Rattle.call_tree.specs.Running.{IsEffects}
 use Rattle.sim_run.specs.declared.ticket.Ticket.{Ticket}
+use Rattle.sim_run.specs.Sends.{posted}
 use Rattle.sim_run.specs.Marked.{marked}
-use Rattle.sim_run.proofs.Fewer.{posted-length}
 use Rattle.sim_run.proofs.Steps.{plan-wide}
 use Rattle.sim_run.proofs.NewCalls.{place, no-place, call-ready, call-after, call-tells, full-ready, full-after, full-tells, first-low}
 use Rattle.sim_run.proofs.state.Replay.call.Goals as goal
@@ -72,7 +72,7 @@ returns-clause-ready c =
     let run : IsEffects (start script_kinds p c.args.call c.args.text.now c.args.self.now.reached) c.in_ok-open.effects =
     subst (λ t. IsEffects (start script_kinds p c.args.call t c.args.self.now.reached) c.in_ok-open.effects) c.in_ok-text.ensures (subst (λ q. IsEffects (start script_kinds q c.args.call c.in_ok-text.text c.args.self.now.reached) c.in_ok-open.effects) shared c.in_ok-open.ensures.effects) in
     let marks = c.in_ok-begin.ensures.marks ∙ ap (λ ms. marked c.in-Some.first ms c.args.self.now.marks) run.marks in
-    let wires = ap length c.in_ok-begin.ensures.sent ∙ posted-length c.in-Some.first p c.args.call c.in_ok-open.effects.sends c.args.self.now.wires.items in
+    let wires = c.in_ok-begin.ensures.sent ∙ ap (λ ss. posted c.in-Some.first p c.args.call ss c.args.self.now.wires.items) run.sends in
     call-ready c.args.self.now c.begin-2.new.self c.args.script.now c.args.call c.args.self.now.reached ticket c.args.text.now c.requires.ready c.requires.few c.in_ok-plan.ensures.narrow c.in_ok-plan.ensures.served c.requires.new at made c.in_ok-begin.ensures.calls c.in_ok-begin.ensures.once marks wires
 
 pub returns-clause-after : goal.returns-clause-after

@@ -1,13 +1,10 @@
 -- The event comes to the call that its first id finds.
-use Rattle.std.proofs.Common.{◌∙◌, refl, ap, length, arith, List}
-use Rattle.id_pool.specs.Ranges.{look}
+use Rattle.std.proofs.Common.{◌∙◌, sym, refl, ap, arith, List}
 use Rattle.rpc_model.specs.Told as spec
 use Rattle.sim_run.specs.Link.{Link}
-use Rattle.sim_run.specs.Acting.{turned_by}
-use Rattle.sim_run.specs.declared.turn.Turn.TheVariants as turn
+use Rattle.sim_run.specs.Desk.{event_wires}
 use Rattle.timer_core.specs.declared.mark.Mark.{Mark}
-use Rattle.sim_run.proofs.Fewer.{acts-wires, turned-fewer}
-use Rattle.sim_run.proofs.Ready.{ready-brings, event-replay, own-event, no-event}
+use Rattle.sim_run.proofs.Ready.{ready-brings, event-replay, own-event, own-wired, no-event}
 use Rattle.sim_run.proofs.state.Replay.event.Goals as goal
 
 pub returns-in_default-clause-after : goal.returns-in_default-clause-after
@@ -19,12 +16,17 @@ bring-requires-clause-few c = omega (arith, c.requires.ready.pool, c.requires.fi
 
 pub returns-clause-ready : goal.returns-clause-ready
 returns-clause-ready c =
-    let t = turn.Event c.args.event c.args.self.now.reached in
     let b = own-event c.args.script.now c.args.self.now c.bring.new.pool c.bring.new.wires.items c.bring.new.marks c.args.call c.in-Some.ticket.now c.args.event c.requires.ready c.requires.few c.requires.settled c.in-Some.ensures c.in_ok-bring.ensures.after c.in_ok-bring.ensures.acts in
-    let wires = ap (λ (p : List Link × List Mark). length p.0) c.in_ok-bring.ensures.acts ∙ acts-wires c.in-Some.ticket.now.first (turned_by t) (look c.in-Some.ticket.now.first c.args.self.now.pool) c.args.self.now.wires.items c.args.self.now.marks (λ first a. turned-fewer t first a) in
-    ready-brings c.args.script.now c.args.self.now (record { reached = c.args.self.now.reached; calls = c.args.self.now.calls; pool = c.bring.new.pool; wires = c.bring.new.wires; marks = c.bring.new.marks }) c.args.call (spec.event_after c.args.event c.args.self.now.reached) c.requires.ready b refl wires
+    let wired = own-wired c.args.script.now c.args.self.now c.bring.new.pool c.bring.new.wires.items c.bring.new.marks c.args.call c.in-Some.ticket.now c.args.event c.requires.ready c.requires.few c.requires.settled c.in-Some.ensures b.follows c.in_ok-bring.ensures.acts in
+    ready-brings c.args.script.now c.args.self.now (record { reached = c.args.self.now.reached; calls = c.args.self.now.calls; pool = c.bring.new.pool; wires = c.bring.new.wires; marks = c.bring.new.marks }) c.args.call (spec.event_after c.args.event c.args.self.now.reached) c.requires.ready b refl wired
 
 pub returns-clause-after : goal.returns-clause-after
 returns-clause-after c =
     let b = own-event c.args.script.now c.args.self.now c.bring.new.pool c.bring.new.wires.items c.bring.new.marks c.args.call c.in-Some.ticket.now c.args.event c.requires.ready c.requires.few c.requires.settled c.in-Some.ensures c.in_ok-bring.ensures.after c.in_ok-bring.ensures.acts in
     event-replay c.args.self.now (record { reached = c.args.self.now.reached; calls = c.args.self.now.calls; pool = c.bring.new.pool; wires = c.bring.new.wires; marks = c.bring.new.marks }) c.args.call c.args.event b.follows refl refl
+
+pub returns-in_default-clause-wires : goal.returns-in_default-clause-wires
+returns-in_default-clause-wires c = ap (λ o. event_wires o c.args.event c.args.self.now) c.in_default.ensures
+
+pub returns-clause-wires : goal.returns-clause-wires
+returns-clause-wires c = ap (λ (p : List Link × List Mark). p.0) c.in_ok-bring.ensures.acts ∙ ap (λ o. event_wires o c.args.event c.args.self.now) c.in-Some.ensures

@@ -1,15 +1,13 @@
 -- A join tells what it finds.
-use Rattle.std.proofs.Common.{List, ◌∷◌, [], sym, refl, ap, length, arith, ◌∙◌}
-use Rattle.id_pool.specs.Ranges.{look}
+use Rattle.std.proofs.Common.{List, ◌∷◌, [], sym, refl, ap, arith, ◌∙◌}
 use Rattle.timer_core.specs.declared.mark.Mark.{Mark}
 use Rattle.sim_run.specs.Link.{Link}
-use Rattle.sim_run.specs.Acting.{joined_by}
-use Rattle.sim_run.proofs.Fewer.{acts-wires, joined-fewer}
+use Rattle.sim_run.specs.Desk.{ticket_in, join_wires}
 use Rattle.std.proofs.lemmas.List.{append-nil}
 use Rattle.rpc_model.specs.Told as spec
 use Rattle.sim_run.proofs.Ready.{ready-brings}
 use Rattle.sim_run.proofs.JoinSteps.{moment_or, tells_or, join-first}
-use Rattle.sim_run.proofs.JoinReady.{join-replay, join-brings, join-early, joins-absent, joins-full, joins-ticket}
+use Rattle.sim_run.proofs.JoinReady.{join-replay, join-brings, join-wired, join-early, joins-absent, joins-full, joins-ticket}
 use Rattle.sim_run.proofs.state.Replay.join.Goals as goal
 
 pub returns-in_default-clause-after : goal.returns-in_default-clause-after
@@ -45,7 +43,8 @@ pub returns-in_default-joined-clause-ready : goal.returns-in_default-joined-clau
 returns-in_default-joined-clause-ready c =
     let j = joins-ticket c.args.script.now c.args.self.now c.args.call c.in-Some-known.ticket c.requires.ready c.requires.few (rw c.in-Some-known.is at c.in-Some.ensures.value) in
     let b = join-brings c.args.script.now c.args.self.now c.join.new.pool c.join.new.wires.items c.join.new.marks c.args.call c.in-Some-known.ticket c.requires.ready c.requires.few (rw c.in-Some-known.is at c.in-Some.ensures.value) j.follows c.in_ok-joined.ensures.after c.in_ok-joined.ensures.acts in
-    ready-brings c.args.script.now c.args.self.now (record { reached = c.args.self.now.reached; calls = c.args.self.now.calls; pool = c.join.new.pool; wires = c.join.new.wires; marks = c.join.new.marks }) c.args.call (spec.joined c.args.self.now.reached) c.requires.ready b refl (ap (λ (p : List Link × List Mark). length p.0) c.in_ok-joined.ensures.acts ∙ acts-wires c.in-Some-known.ticket.first (joined_by c.args.self.now.reached) (look c.in-Some-known.ticket.first c.args.self.now.pool) c.args.self.now.wires.items c.args.self.now.marks (λ first a. joined-fewer c.args.self.now.reached first a))
+    let wired = join-wired c.args.script.now c.args.self.now c.join.new.pool c.join.new.wires.items c.join.new.marks c.args.call c.in-Some-known.ticket c.requires.ready c.requires.few (rw c.in-Some-known.is at c.in-Some.ensures.value) b.follows c.in_ok-joined.ensures.acts in
+    ready-brings c.args.script.now c.args.self.now (record { reached = c.args.self.now.reached; calls = c.args.self.now.calls; pool = c.join.new.pool; wires = c.join.new.wires; marks = c.join.new.marks }) c.args.call (spec.joined c.args.self.now.reached) c.requires.ready b refl wired
 
 pub returns-in_default-joined-clause-after : goal.returns-in_default-joined-clause-after
 returns-in_default-joined-clause-after c =
@@ -61,7 +60,8 @@ pub returns-clause-ready : goal.returns-clause-ready
 returns-clause-ready c =
     let j = joins-ticket c.args.script.now c.args.self.now c.args.call c.in-Some-known.ticket c.requires.ready c.requires.few (rw c.in-Some-known.is at c.in-Some.ensures.value) in
     let b = join-brings c.args.script.now c.args.self.now c.join.new.pool c.join.new.wires.items c.join.new.marks c.args.call c.in-Some-known.ticket c.requires.ready c.requires.few (rw c.in-Some-known.is at c.in-Some.ensures.value) j.follows c.in_ok-joined.ensures.after c.in_ok-joined.ensures.acts in
-    ready-brings c.args.script.now c.args.self.now (record { reached = c.in-Some-joined.reached; calls = c.args.self.now.calls; pool = c.join.new.pool; wires = c.join.new.wires; marks = c.join.new.marks }) c.args.call (spec.joined c.args.self.now.reached) c.requires.ready b refl (ap (λ (p : List Link × List Mark). length p.0) c.in_ok-joined.ensures.acts ∙ acts-wires c.in-Some-known.ticket.first (joined_by c.args.self.now.reached) (look c.in-Some-known.ticket.first c.args.self.now.pool) c.args.self.now.wires.items c.args.self.now.marks (λ first a. joined-fewer c.args.self.now.reached first a))
+    let wired = join-wired c.args.script.now c.args.self.now c.join.new.pool c.join.new.wires.items c.join.new.marks c.args.call c.in-Some-known.ticket c.requires.ready c.requires.few (rw c.in-Some-known.is at c.in-Some.ensures.value) b.follows c.in_ok-joined.ensures.acts in
+    ready-brings c.args.script.now c.args.self.now (record { reached = c.in-Some-joined.reached; calls = c.args.self.now.calls; pool = c.join.new.pool; wires = c.join.new.wires; marks = c.join.new.marks }) c.args.call (spec.joined c.args.self.now.reached) c.requires.ready b refl wired
 
 pub returns-clause-after : goal.returns-clause-after
 returns-clause-after c =
@@ -72,3 +72,17 @@ pub returns-clause-tells : goal.returns-clause-tells
 returns-clause-tells c =
     let j = joins-ticket c.args.script.now c.args.self.now c.args.call c.in-Some-known.ticket c.requires.ready c.requires.few (rw c.in-Some-known.is at c.in-Some.ensures.value) in
     rw (j.tells ∙ ap (λ x. tells_or c.args.call x ∷ []) (sym (sym c.in-Some-joined.is ∙ c.in_ok-joined.ensures.says))) c.in_ok-push-3.ensures.items
+
+pub returns-in_default-clause-wires : goal.returns-in_default-clause-wires
+returns-in_default-clause-wires c = ap (λ o. join_wires (ticket_in o) c.args.self.now) c.in_default.ensures.value
+
+pub returns-in_default-known-clause-wires : goal.returns-in_default-known-clause-wires
+returns-in_default-known-clause-wires c = ap (λ o. join_wires (ticket_in o) c.args.self.now) (rw c.in_default-known.is at c.in-Some.ensures.value)
+
+pub returns-in_default-joined-clause-wires : goal.returns-in_default-joined-clause-wires
+returns-in_default-joined-clause-wires c =
+    ap (λ (p : List Link × List Mark). p.0) c.in_ok-joined.ensures.acts ∙ ap (λ o. join_wires (ticket_in o) c.args.self.now) (rw c.in-Some-known.is at c.in-Some.ensures.value)
+
+pub returns-clause-wires : goal.returns-clause-wires
+returns-clause-wires c =
+    ap (λ (p : List Link × List Mark). p.0) c.in_ok-joined.ensures.acts ∙ ap (λ o. join_wires (ticket_in o) c.args.self.now) (rw c.in-Some-known.is at c.in-Some.ensures.value)

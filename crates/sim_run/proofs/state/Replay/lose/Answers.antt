@@ -1,17 +1,19 @@
 -- The attempt that its id finds is told that it was lost.
-use Rattle.std.proofs.Common.{◌∙◌, sym, refl, ap, length, ℕ, List, Some, arith}
+use Rattle.std.proofs.Common.{◌∙◌, sym, refl, ap, ℕ, List, Some, arith}
 use Rattle.rpc_model.specs.declared.event.Event.{Event}
 use Rattle.rpc_model.specs.declared.event.Event.TheVariants as event
 use Rattle.rpc_model.specs.Told as spec
 use Rattle.timer_core.specs.declared.mark.Mark.{Mark}
 use Rattle.sim_run.specs.Link.{Link}
-use Rattle.sim_run.specs.Desk.{IsServedIn}
-use Rattle.sim_run.specs.Wires.{received}
+use Rattle.sim_run.specs.Desk.{IsServedIn, IsAimed, AreWired, ticket_of, event_wires, loss_wires}
+use Rattle.sim_run.specs.Wires.{lost}
+use Rattle.sim_run.specs.Passages.{was_lost}
 use Rattle.sim_run.specs.declared.state.Replay.{Replay}
 use Rattle.sim_run.proofs.Brings.{Brings}
-use Rattle.sim_run.proofs.Fewer.{on_wire-length}
+use Rattle.sim_run.proofs.Wiring.{wired-in}
 use Rattle.sim_run.proofs.Ready.{ready-brings, event-replay, no-event, some_ticket}
-use Rattle.sim_run.proofs.Replies.{entry-of, ticket-low, attempt-brings, brought-wires}
+use Rattle.sim_run.proofs.Entries.{entry-of}
+use Rattle.sim_run.proofs.Replies.{ticket-low, attempt-brings, attempt-wired, aimed-wires, unaimed-wires}
 use Rattle.sim_run.proofs.state.Replay.lose.Goals as goal
 
 pub returns-in_default-clause-after : goal.returns-in_default-clause-after
@@ -41,8 +43,18 @@ returns-clause-ready c =
     let b = attempt-brings c.args.script.now c.args.self.now c.forget.new.wires.items c.args.call c.in-Some.ticket.now c.args.node c.args.attempt c.in-Some-aim.aim.id what c.requires.ready c.requires.few c.requires.settled c.in-Some.ensures c.in-Some-aim.ensures.id in
     let here : Brings c.args.self.now.pool c.lose.new.pool c.lose.new.marks c.args.self.now.calls.entries c.args.call (spec.event_after (what c.args.node c.args.attempt) c.args.self.now.reached) = rw (after, marks) b in
     let new : Replay = record { reached = c.args.self.now.reached; calls = c.args.self.now.calls; pool = c.lose.new.pool; wires = c.lose.new.wires; marks = c.lose.new.marks } in
-    let wires = ap (λ (p : List Link × List Mark). length p.0) acts ∙ brought-wires what c.args.self.now.reached c.in-Some-aim.aim.id c.args.self.now.pool c.forget.new.wires.items c.args.self.now.marks ∙ ap length c.forget.ensures ∙ on_wire-length c.in-Some-aim.aim.server (received c.in-Some-aim.aim.id) c.args.self.now.wires.items in
-    ready-brings c.args.script.now c.args.self.now new c.args.call (spec.event_after (what c.args.node c.args.attempt) c.args.self.now.reached) c.requires.ready here refl wires
+    let aimed : IsAimed c.args.self.now.calls.entries c.args.call c.in-Some-aim.aim.server c.in-Some-aim.aim.id = record {
+      ticket = c.in-Some.ticket.now;
+      node = c.args.node;
+      attempt = c.args.attempt;
+      found = some_ticket _ c.in-Some.ticket.now (sym c.in-Some.ensures);
+      named = c.in-Some-aim.ensures.id;
+      to = c.in-Some-aim.ensures.server;
+    } in
+    let came : AreWired c.args.script.now.servers c.args.self.now.pool c.args.self.now.calls.entries c.forget.new.wires.items = rw c.forget.ensures (wired-in c.args.script.now.servers c.args.self.now.pool c.args.self.now.calls.entries c.args.self.now.wires.items (was_lost c.args.call c.in-Some-aim.aim.server c.in-Some-aim.aim.id) aimed (λ c. refl) c.requires.ready.wired) in
+    let left = attempt-wired c.args.script.now c.args.self.now c.forget.new.wires.items c.args.call c.in-Some.ticket.now c.args.node c.args.attempt c.in-Some-aim.aim.id what c.requires.ready c.requires.few c.requires.settled c.in-Some.ensures c.in-Some-aim.ensures.id came b.follows in
+    let wired : AreWired c.args.script.now.servers c.lose.new.pool c.args.self.now.calls.entries c.lose.new.wires.items = rw (after, ap (λ (p : List Link × List Mark). p.0) acts) left in
+    ready-brings c.args.script.now c.args.self.now new c.args.call (spec.event_after (what c.args.node c.args.attempt) c.args.self.now.reached) c.requires.ready here refl wired
 
 pub returns-clause-after : goal.returns-clause-after
 returns-clause-after c =
@@ -54,3 +66,21 @@ returns-clause-after c =
     let here : Brings c.args.self.now.pool c.lose.new.pool c.lose.new.marks c.args.self.now.calls.entries c.args.call (spec.event_after (what c.args.node c.args.attempt) c.args.self.now.reached) = rw (after, marks) b in
     let new : Replay = record { reached = c.args.self.now.reached; calls = c.args.self.now.calls; pool = c.lose.new.pool; wires = c.lose.new.wires; marks = c.lose.new.marks } in
     event-replay c.args.self.now new c.args.call (what c.args.node c.args.attempt) here.follows refl refl
+
+pub returns-in_default-clause-wires : goal.returns-in_default-clause-wires
+returns-in_default-clause-wires c = ap (λ o. loss_wires o c.args.call c.args.node c.args.attempt c.args.code c.args.self.now) c.in_default.ensures
+
+pub returns-in_default-aim-clause-wires : goal.returns-in_default-aim-clause-wires
+returns-in_default-aim-clause-wires c =
+    let what : ℕ → ℕ → Event = λ n k. event.Lost n k c.args.code in
+    let change : ℕ → Link → Link = lost in
+    let is = c.in_ok-event.ensures.wires ∙ sym (ap (λ o. event_wires o (event.Lost c.args.node c.args.attempt c.args.code) c.args.self.now) c.in-Some.ensures) in
+    unaimed-wires change what c.args.self.now c.event.new.self.wires.items c.in-Some.ticket.now c.args.call c.args.node c.args.attempt is c.in_default-aim.ensures.none ∙ ap (λ o. loss_wires o c.args.call c.args.node c.args.attempt c.args.code c.args.self.now) c.in-Some.ensures
+
+pub returns-clause-wires : goal.returns-clause-wires
+returns-clause-wires c =
+    let what : ℕ → ℕ → Event = λ n k. event.Lost n k c.args.code in
+    let change : ℕ → Link → Link = lost in
+    let acts = c.in_ok-lose.ensures.acts in
+    aimed-wires change what c.args.self.now c.lose.new.wires.items c.forget.new.wires.items c.in-Some.ticket.now c.args.call c.args.node c.args.attempt c.in-Some-aim.aim.id c.in-Some-aim.aim.server (ap (λ (p : List Link × List Mark). p.0) acts) c.forget.ensures c.in-Some-aim.ensures.server c.in-Some-aim.ensures.id
+    ∙ ap (λ o. loss_wires o c.args.call c.args.node c.args.attempt c.args.code c.args.self.now) c.in-Some.ensures

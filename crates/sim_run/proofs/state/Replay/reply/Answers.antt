@@ -1,17 +1,19 @@
 -- The reply comes to the attempt that its id finds.
-use Rattle.std.proofs.Common.{◌∙◌, sym, refl, ap, length, ℕ, List, Some, arith}
+use Rattle.std.proofs.Common.{◌∙◌, sym, refl, ap, ℕ, List, Some, arith}
 use Rattle.rpc_model.specs.declared.event.Event.{Event}
 use Rattle.rpc_model.specs.declared.event.Event.TheVariants as event
 use Rattle.rpc_model.specs.Told as spec
 use Rattle.timer_core.specs.declared.mark.Mark.{Mark}
 use Rattle.sim_run.specs.Link.{Link}
-use Rattle.sim_run.specs.Desk.{IsServedIn}
+use Rattle.sim_run.specs.Desk.{IsServedIn, IsAimed, AreWired, ticket_of, event_wires, reply_wires}
 use Rattle.sim_run.specs.Wires.{received}
+use Rattle.sim_run.specs.Passages.{came_in}
 use Rattle.sim_run.specs.declared.state.Replay.{Replay}
 use Rattle.sim_run.proofs.Brings.{Brings}
-use Rattle.sim_run.proofs.Fewer.{on_wire-length}
+use Rattle.sim_run.proofs.Wiring.{wired-in, wired-length}
 use Rattle.sim_run.proofs.Ready.{ready-brings, event-replay, no-event, some_ticket}
-use Rattle.sim_run.proofs.Replies.{entry-of, ticket-low, attempt-brings, brought-wires}
+use Rattle.sim_run.proofs.Entries.{entry-of}
+use Rattle.sim_run.proofs.Replies.{ticket-low, attempt-brings, attempt-wired, aimed-wires, unaimed-wires}
 use Rattle.sim_run.proofs.state.Replay.reply.Goals as goal
 
 pub returns-in_default-clause-after : goal.returns-in_default-clause-after
@@ -30,7 +32,7 @@ aim-requires-clause-served c =
 
 pub receive-requires-clause-server : goal.receive-requires-clause-server
 receive-requires-clause-server c =
-    omega (arith, c.in-Some-aim.ensures.bound, c.requires.ready.wires)
+    omega (arith, c.in-Some-aim.ensures.bound, wired-length c.args.script.now.servers c.args.self.now.pool c.args.self.now.calls.entries c.args.self.now.wires.items c.requires.ready.wired)
 
 pub receive-requires-clause-id : goal.receive-requires-clause-id
 receive-requires-clause-id c =
@@ -50,8 +52,18 @@ returns-clause-ready c =
     let b = attempt-brings c.args.script.now c.args.self.now c.receive.new.wires.items c.args.call c.in-Some.ticket.now c.args.node c.args.attempt c.in-Some-aim.aim.id what c.requires.ready c.requires.few c.requires.settled c.in-Some.ensures c.in-Some-aim.ensures.id in
     let here : Brings c.args.self.now.pool c.deliver.new.pool c.deliver.new.marks c.args.self.now.calls.entries c.args.call (spec.event_after (what c.args.node c.args.attempt) c.args.self.now.reached) = rw (after, marks) b in
     let new : Replay = record { reached = c.args.self.now.reached; calls = c.args.self.now.calls; pool = c.deliver.new.pool; wires = c.deliver.new.wires; marks = c.deliver.new.marks } in
-    let wires = ap (λ (p : List Link × List Mark). length p.0) acts ∙ brought-wires what c.args.self.now.reached c.in-Some-aim.aim.id c.args.self.now.pool c.receive.new.wires.items c.args.self.now.marks ∙ ap length c.in_ok-reply.ensures.wire ∙ on_wire-length c.in-Some-aim.aim.server (received c.in-Some-aim.aim.id) c.args.self.now.wires.items in
-    ready-brings c.args.script.now c.args.self.now new c.args.call (spec.event_after (what c.args.node c.args.attempt) c.args.self.now.reached) c.requires.ready here refl wires
+    let aimed : IsAimed c.args.self.now.calls.entries c.args.call c.in-Some-aim.aim.server c.in-Some-aim.aim.id = record {
+      ticket = c.in-Some.ticket.now;
+      node = c.args.node;
+      attempt = c.args.attempt;
+      found = some_ticket _ c.in-Some.ticket.now (sym c.in-Some.ensures);
+      named = c.in-Some-aim.ensures.id;
+      to = c.in-Some-aim.ensures.server;
+    } in
+    let came : AreWired c.args.script.now.servers c.args.self.now.pool c.args.self.now.calls.entries c.receive.new.wires.items = rw c.in_ok-reply.ensures.wire (wired-in c.args.script.now.servers c.args.self.now.pool c.args.self.now.calls.entries c.args.self.now.wires.items (came_in c.args.call c.in-Some-aim.aim.server (record { id = c.in-Some-aim.aim.id; code = c.args.code; text = c.args.text.now })) aimed (λ c. refl) c.requires.ready.wired) in
+    let left = attempt-wired c.args.script.now c.args.self.now c.receive.new.wires.items c.args.call c.in-Some.ticket.now c.args.node c.args.attempt c.in-Some-aim.aim.id what c.requires.ready c.requires.few c.requires.settled c.in-Some.ensures c.in-Some-aim.ensures.id came b.follows in
+    let wired : AreWired c.args.script.now.servers c.deliver.new.pool c.args.self.now.calls.entries c.deliver.new.wires.items = rw (after, ap (λ (p : List Link × List Mark). p.0) acts) left in
+    ready-brings c.args.script.now c.args.self.now new c.args.call (spec.event_after (what c.args.node c.args.attempt) c.args.self.now.reached) c.requires.ready here refl wired
 
 pub returns-clause-after : goal.returns-clause-after
 returns-clause-after c =
@@ -63,3 +75,21 @@ returns-clause-after c =
     let here : Brings c.args.self.now.pool c.deliver.new.pool c.deliver.new.marks c.args.self.now.calls.entries c.args.call (spec.event_after (what c.args.node c.args.attempt) c.args.self.now.reached) = rw (after, marks) b in
     let new : Replay = record { reached = c.args.self.now.reached; calls = c.args.self.now.calls; pool = c.deliver.new.pool; wires = c.deliver.new.wires; marks = c.deliver.new.marks } in
     event-replay c.args.self.now new c.args.call (what c.args.node c.args.attempt) here.follows refl refl
+
+pub returns-in_default-clause-wires : goal.returns-in_default-clause-wires
+returns-in_default-clause-wires c = ap (λ o. reply_wires o c.args.call c.args.node c.args.attempt c.args.code c.args.text.now c.args.self.now) c.in_default.ensures
+
+pub returns-in_default-aim-clause-wires : goal.returns-in_default-aim-clause-wires
+returns-in_default-aim-clause-wires c =
+    let what : ℕ → ℕ → Event = λ n k. event.Reply n k c.args.code c.args.text.now in
+    let change : ℕ → Link → Link = λ id. received (record { id = id; code = c.args.code; text = c.args.text.now }) in
+    let is = c.in_ok-event.ensures.wires ∙ ap (λ t. event_wires (ticket_of c.args.call c.args.self.now) (event.Reply c.args.node c.args.attempt c.args.code t) c.args.self.now) c.in_ok-text.ensures ∙ sym (ap (λ o. event_wires o (event.Reply c.args.node c.args.attempt c.args.code c.args.text.now) c.args.self.now) c.in-Some.ensures) in
+    unaimed-wires change what c.args.self.now c.event.new.self.wires.items c.in-Some.ticket.now c.args.call c.args.node c.args.attempt is c.in_default-aim.ensures.none ∙ ap (λ o. reply_wires o c.args.call c.args.node c.args.attempt c.args.code c.args.text.now c.args.self.now) c.in-Some.ensures
+
+pub returns-clause-wires : goal.returns-clause-wires
+returns-clause-wires c =
+    let what : ℕ → ℕ → Event = λ n k. event.Reply n k c.args.code c.args.text.now in
+    let change : ℕ → Link → Link = λ id. received (record { id = id; code = c.args.code; text = c.args.text.now }) in
+    let acts = rw c.in_ok-reply.ensures.reply at c.in_ok-deliver.ensures.acts in
+    aimed-wires change what c.args.self.now c.deliver.new.wires.items c.receive.new.wires.items c.in-Some.ticket.now c.args.call c.args.node c.args.attempt c.in-Some-aim.aim.id c.in-Some-aim.aim.server (ap (λ (p : List Link × List Mark). p.0) acts) c.in_ok-reply.ensures.wire c.in-Some-aim.ensures.server c.in-Some-aim.ensures.id
+    ∙ ap (λ o. reply_wires o c.args.call c.args.node c.args.attempt c.args.code c.args.text.now c.args.self.now) c.in-Some.ensures

@@ -1,7 +1,9 @@
 -- The frame that was written is the one that comes in.
-use Rattle.std.proofs.Common.{◌≡◌, ◌++◌, ap, ◌∙◌, arith, List}
+use Rattle.std.proofs.Common.{◌≡◌, ◌++◌, ap, ◌∙◌, arith, List, ℕ, length}
+use Rattle.prpc_frames.specs.Stream.Reading.{later}
 use Rattle.prpc_frames.specs.Stream.Spelling.{frame_bytes}
-use Rattle.sim_run.proofs.Streams.{feed-idle, feed-taken, handed-out}
+use Rattle.sim_run.specs.Link.{Link}
+use Rattle.sim_run.proofs.Streams.{feed-idle, feed-taken, handed-out, one-frame}
 use Rattle.sim_run.proofs.wire.Wire.pass.Goals as goal
 
 pub invariant_of-self : goal.invariant_of-self
@@ -28,3 +30,11 @@ returns-clause-frame c =
     let piece : c.deref.result.now ≡ frame_bytes c.args.frame.now = c.deref.ensures.value ∙ c.in_ok-write_frame.ensures.written ∙ ap (λ (xs : List _). xs ++ frame_bytes c.args.frame.now) c.new-bytes.ensures.items in
     let t = feed-taken c.begins_with_spelled.ensures c.self.inside.frames c.feed.new.self c.args.frame.now c.deref.result.now c.in-Ok.field-0 c.self.invariant c.requires.fitting c.requires.typed piece c.in-Ok.ensures.taken in
     (handed-out _ c.args.frame.now c.in-Some.frame c.feed.new.self c.next.new.self (omega arith) t c.in-Some.ensures).0
+
+pub returns-clause-wire : goal.returns-clause-wire
+returns-clause-wire c =
+    let piece : c.deref.result.now ≡ frame_bytes c.args.frame.now = c.deref.ensures.value ∙ c.in_ok-write_frame.ensures.written ∙ ap (λ (xs : List _). xs ++ frame_bytes c.args.frame.now) c.new-bytes.ensures.items in
+    let t = feed-taken c.begins_with_spelled.ensures c.self.inside.frames c.feed.new.self c.args.frame.now c.deref.result.now c.in-Ok.field-0 c.self.invariant c.requires.fitting c.requires.typed piece c.in-Ok.ensures.taken in
+    let out = handed-out _ c.args.frame.now c.in-Some.frame c.feed.new.self c.next.new.self (omega arith) t c.in-Some.ensures in
+    let link : ℕ → Link = λ n. record { out = c.self.inside.out; waiting = c.self.inside.outstanding; read = n } in
+    rw (← c.self.view_is) (ap link (out.2 ∙ ap (λ bs. later c.self.inside.frames.at (length bs)) (one-frame c.args.frame.now)))
