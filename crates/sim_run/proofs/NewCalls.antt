@@ -1,5 +1,5 @@
 -- A call line of a replay.
-use Rattle.std.proofs.Common.{◌≡◌, ℕ, ◌+◌, ◌*◌, ◌^◌, ◌<◌, ◌≤◌, inl, inr, Bool, true, false, nat_eq, List, [], ◌∷◌, ◌++◌, length, slice_get, count_by, Option, None, Some, ap, sym, refl, ◌∙◌, subst, arith, if◌then◌else◌}
+use Rattle.std.proofs.Common.{◌≡◌, ℕ, ◌+◌, ◌*◌, ◌^◌, ◌<◌, ◌≤◌, inl, inr, true, false, nat_eq, List, [], ◌∷◌, ◌++◌, length, slice_get, count_by, Option, None, Some, ap, sym, refl, ◌∙◌, subst, arith, if◌then◌else◌}
 use Rattle.std.proofs.lemmas.Bool.{eqb-false, ne_eqb}
 use Rattle.std.proofs.lemmas.Bool.Decides.{nat_tests}
 use Rattle.std.proofs.lemmas.Map.Keys.{IsDistinct-head, IsDistinct-tail}
@@ -27,7 +27,7 @@ use Rattle.sim_run.specs.declared.ticket.Ticket.{Ticket}
 use Rattle.sim_run.specs.declared.state.Replay.{Replay}
 use Rattle.sim_run.specs.Sends.{posted}
 use Rattle.sim_run.specs.Marked.{marked, HasMarks, AreMarked, IsOwned, AreOwned}
-use Rattle.sim_run.specs.Desk.{standings, plan_of, width_of, IsSlot, IsServedIn, IsReady, replay_of}
+use Rattle.sim_run.specs.Desk.{standings, plan_of, width_of, IsSlot, IsServedIn, IsReady, replay_of, first_wires}
 use Rattle.sim_run.proofs.Changes.{slice_get-change}
 use Rattle.sim_run.proofs.Apart.{same_or, slice_get-other}
 use Rattle.sim_run.proofs.Acts.{marks-set, all-has, has-marked, ids-set}
@@ -210,3 +210,10 @@ absent ((number, o) ∷ xs) call rest d =
     behind : (ks : List ℕ) (call : ℕ) (rest : List ℕ) (number : ℕ) → AllByRecursion (λ y. nat_eq number y ≡ false) (ks ++ call ∷ rest) → nat_eq number call ≡ false
     behind [] call rest number h = h.0
     behind (k ∷ ks) call rest number h = behind ks call rest number h.1
+
+-- What a call that took a slot sends at once.
+pub first-wires : (old : Replay) (call first : ℕ) (text : List ℕ) (plan : Plan MapKind MergeKind) (o : Option (ℕ × ℕ)) → Some first ≡ option_map (λ p. make_id p.0 p.1) o
+    → posted first plan call (start script_kinds plan call text old.reached).sends old.wires.items ≡ first_wires o (Some plan) call text old
+first-wires old call first text plan None e = absurd (cc)
+first-wires old call first text plan (Some free) e =
+    let same : first ≡ make_id free.0 free.1 = cc in ap (λ n. posted n plan call (start script_kinds plan call text old.reached).sends old.wires.items) same

@@ -1,5 +1,5 @@
 -- What passes on the wires while a call acts: the requests that the plain machine sends, and no other.
-use Rattle.std.proofs.Common.{◌≡◌, ◌≢◌, ℕ, zero, suc, max, Bool, true, false, cond, nat_le, List, [], ◌∷◌, ◌++◌, fold, Option, Some, None, is_some, refl, ap, sym, ◌∙◌, append_assoc, if◌then◌else◌}
+use Rattle.std.proofs.Common.{◌≡◌, ◌≢◌, ℕ, zero, suc, ◌-◌, max, Bool, true, false, cond, nat_le, List, [], ◌∷◌, ◌++◌, fold, Option, Some, None, is_some, refl, ap, sym, ◌∙◌, append_assoc, if◌then◌else◌}
 use Rattle.std.proofs.lemmas.Bool.{eq-eqb, ne_eqb}
 use Rattle.std.proofs.lemmas.List.{append-nil}
 use Rattle.std.proofs.lemmas.List.Elements.{filter-append}
@@ -14,12 +14,15 @@ use Rattle.rpc_model.specs.Plan.{Plan}
 use Rattle.rpc_model.specs.Versions.{offset_of}
 use Rattle.rpc_model.specs.State.{Run, end_of, and_then}
 use Rattle.rpc_model.specs.Machine.{step}
-use Rattle.rpc_model.specs.Marks.{mark_event, least_mark, marks_left}
+use Rattle.rpc_model.specs.Marks.{Begun, mark_event, least_mark, marks_left}
+use Rattle.id_pool.specs.Ranges.{Seen, Nothing, Unlocked, Locked}
+use Rattle.timer_core.specs.declared.mark.Mark.{Mark}
+use Rattle.sim_run.specs.Slots.{acts_by}
 use Rattle.sim_run.specs.declared.turn.Turn.{Turn}
 use Rattle.sim_run.specs.declared.turn.Turn.TheVariants as turn
 use Rattle.sim_run.specs.Link.{Link}
 use Rattle.sim_run.specs.Sends.{posted_at, posted_one, posted}
-use Rattle.sim_run.specs.Passages.{Passage, went_out, passed_one, passed, request_at, requests, is_request, requests_in}
+use Rattle.sim_run.specs.Passages.{Passage, passed_one, passed, HavePassed, request_at, requests, is_request, requests_in}
 use Rattle.sim_run.specs.Acting.{Acting, acted, taken, woven_at_most, woven_least, finished_at_most, finished_least, turned_by, joined_by}
 
 -- ---- the requests of sends
@@ -155,3 +158,14 @@ turned-speaks (turn.Due moment) first a = woven-speaks (marks_left a.call) first
 
 pub joined-speaks : (reached first : ℕ) (a : Acting) → Speaks first a (joined_by reached first a)
 joined-speaks reached first a = finished-speaks (marks_left a.call) first reached a
+
+-- Whatever an id finds, more passed.
+pub acts-passed : (id : ℕ) (d : ℕ → Acting → Acting) (x : Seen Begun) (wires : List Link) (marks : List Mark) → ((first : ℕ) (a : Acting) → Speaks first a (d first a)) → HavePassed wires (acts_by id d x wires marks).0
+acts-passed id d Nothing wires marks speaks = ([], refl)
+acts-passed id d (Unlocked r k) wires marks speaks =
+    let sp = speaks (id - k) (record { call = r.value; wires = wires; marks = marks }) in
+    (requests (id - k) r.value.plan r.value.call sp.sends, sp.wires ∙ posted-passed (id - k) r.value.plan r.value.call sp.sends wires)
+acts-passed id d (Locked r k waiting) wires marks speaks = ([], refl)
+
+pub then-passed : (a b c : List Link) → HavePassed a b → HavePassed b c → HavePassed a c
+then-passed a b c h k = (h.0 ++ k.0, k.1 ∙ ap (passed k.0) h.1 ∙ sym (passed-append h.0 k.0 a))

@@ -20,6 +20,7 @@ use Rattle.sim_run.specs.declared.turn.Turn.TheVariants as turn
 use Rattle.sim_run.specs.Link.{Link}
 use Rattle.sim_run.specs.Slots.{visit, visit_by, visited, turned, acts_by}
 use Rattle.sim_run.specs.Acting.{Acting, turned_by}
+use Rattle.sim_run.specs.Passages.{HavePassed}
 use Rattle.sim_run.specs.Marked.{HasMark, HasMarks, AreMarked, IsOwned, AreOwned}
 use Rattle.sim_run.specs.Desk.{standings, IsSlot, IsSound, IsServedIn, AreWired, IsReady, replay_of, width_of}
 use Rattle.sim_run.proofs.Later.{turned-later}
@@ -31,7 +32,7 @@ use Rattle.sim_run.proofs.Entries.{slot-of-all, known-of, entry-of}
 use Rattle.sim_run.proofs.Steps.{lives, most, Changes, Follows, change-moved, finds-in, offset-in, is-over, over-look, over-nothing}
 use Rattle.sim_run.proofs.Brings.{Brings, found, marked-step, own-ids}
 use Rattle.sim_run.proofs.Marked.{was-due, drop-mark}
-use Rattle.sim_run.proofs.Passing.{turned-speaks}
+use Rattle.sim_run.proofs.Passing.{turned-speaks, acts-passed, then-passed}
 use Rattle.sim_run.proofs.Wiring.{Works, wired-acts}
 use Rattle.sim_run.proofs.Ready.{ready-brings}
 
@@ -161,6 +162,7 @@ pub record IsReaching (script : Script) (old now : Replay) (moment : ℕ) : Type
   pub reached : now.reached ≡ moment
   pub calls : now.calls ≡ old.calls
   pub alike : settled (replay_of now) ≡ settled (record (replay_of old) { reached = moment })
+  pub passed : HavePassed old.wires.items now.wires.items
 
 -- Replays of the same calls whose standings come to the same.
 same-settled : (now new : Replay) (moment : ℕ) → now.reached ≡ moment → new.reached ≡ moment → new.calls ≡ now.calls → map (settle moment) (standings new.pool now.calls.entries) ≡ map (settle moment) (standings now.pool now.calls.entries)
@@ -199,6 +201,7 @@ reaching-turn script old now new moment mark r few is_due reached calls pool act
         reached = moments;
         calls = calls ∙ r.calls;
         alike = same-settled now new moment r.reached moments calls stood ∙ r.alike;
+        passed = then-passed old.wires.items now.wires.items new.wires.items r.passed (rw wires_are (acts-passed mark.id (turned_by t) (look mark.id now.pool) now.wires.items rest (λ first a. turned-speaks t first a)));
       };
       fewer = omega (arith, l, less);
     }

@@ -1,5 +1,5 @@
 -- A reply comes to its attempt by the attempt's id alone.
-use Rattle.std.proofs.Common.{◌≡◌, ℕ, zero, suc, slice_get, ◌+◌, ◌*◌, ◌/◌, ◌^◌, ◌<◌, ◌≤◌, nat_eq, List, [], ◌∷◌, length, Option, None, Some, ap, sym, refl, ◌∙◌, subst, arith, inl, inr}
+use Rattle.std.proofs.Common.{◌≡◌, ℕ, zero, suc, slice_get, ◌+◌, ◌*◌, ◌/◌, ◌^◌, ◌<◌, ◌≤◌, nat_eq, List, [], ◌∷◌, length, Option, None, Some, ap, sym, refl, ◌∙◌, subst, arith}
 use Rattle.std.specs.List.{AllByRecursion}
 use Rattle.std.specs.Map.{lookup}
 use Rattle.std.specs.Option.{option_map}
@@ -8,7 +8,7 @@ use Rattle.rpc_model.specs.declared.script.Script.{Script}
 use Rattle.rpc_model.specs.declared.kinds.MapKind.{MapKind}
 use Rattle.rpc_model.specs.declared.kinds.MergeKind.{MergeKind}
 use Rattle.rpc_model.specs.declared.meaning.Meaning.{Meaning}
-use Rattle.rpc_model.specs.declared.meaning.Meaning.TheVariants.{Node, Attempt}
+use Rattle.rpc_model.specs.declared.meaning.Meaning.TheVariants.{Attempt}
 use Rattle.rpc_model.specs.Plan.{Plan}
 use Rattle.rpc_model.specs.Versions.{versions, offset_of, meaning_of, width}
 use Rattle.rpc_model.proofs.Runs.{inverse}

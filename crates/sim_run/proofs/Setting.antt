@@ -43,3 +43,9 @@ past-on_wire (x ∷ ws) (suc server) f more = ap (λ ys. x ∷ ys) (past-on_wire
 pub idle-snoc : (n : ℕ) → idle_wires n ++ idle_wire ∷ [] ≡ idle_wires (suc n)
 idle-snoc zero = refl
 idle-snoc (suc n) = ap (λ ws. idle_wire ∷ ws) (idle-snoc n)
+
+-- As many wires are left.
+pub on_wire-length : (server : ℕ) (f : Link → Link) (wires : List Link) → length (on_wire server f wires) ≡ length wires
+on_wire-length server f [] = refl
+on_wire-length zero f (w ∷ ws) = refl
+on_wire-length (suc server) f (w ∷ ws) = ap suc (on_wire-length server f ws)

@@ -1,5 +1,5 @@
 -- What passed on the wires stays what the calls sent and what came in for them: a step of one call, a reply or a loss, a new call.
-use Rattle.std.proofs.Common.{◌≡◌, ◌≢◌, inl, inr, ℕ, zero, suc, ◌+◌, ◌-◌, ◌≤◌, ◌<◌, ◌^◌, true, false, nat_eq, List, [], ◌∷◌, ◌++◌, length, Option, None, Some, is_some, filter, ap, sym, refl, ◌∙◌, subst, arith, if◌then◌else◌}
+use Rattle.std.proofs.Common.{◌≡◌, ◌≢◌, inl, inr, ℕ, zero, suc, ◌+◌, ◌≤◌, ◌<◌, false, nat_eq, List, [], ◌∷◌, ◌++◌, length, Option, None, Some, is_some, ap, sym, refl, ◌∙◌, subst, arith, if◌then◌else◌}
 use Rattle.std.proofs.lemmas.Bool.{eqb-true, eqb-false, eq-eqb, ne_eqb}
 use Rattle.std.proofs.lemmas.List.{append-nil}
 use Rattle.std.proofs.lemmas.List.Sums.{fold-append}
@@ -26,16 +26,16 @@ use Rattle.sim_run.specs.declared.ticket.Ticket.{Ticket}
 use Rattle.sim_run.specs.Link.{Link}
 use Rattle.sim_run.specs.Sends.{posted}
 use Rattle.sim_run.specs.Wires.{idle_wires, sent, received, lost}
-use Rattle.sim_run.specs.Passages.{Passage, went_out, came_in, was_lost, passed_one, passed, request_at, requests, is_request, requests_in}
+use Rattle.sim_run.specs.Passages.{Passage, went_out, came_in, was_lost, passed_one, passed, request_at, requests, requests_in}
 use Rattle.sim_run.specs.Acting.{Acting}
-use Rattle.sim_run.specs.Slots.{finished, acts_by}
-use Rattle.sim_run.specs.Desk.{stand, standing_at, standing, standings, plan_of, width_of, IsKnown, IsNumbered, IsSound, IsIn, HasSent, IsSender, IsAimed, IsPassage, AreWired}
+use Rattle.sim_run.specs.Slots.{acts_by}
+use Rattle.sim_run.specs.Desk.{stand, standing_at, standing, standings, plan_of, width_of, IsKnown, IsNumbered, IsSound, IsIn, HasSent, IsSender, IsPassage, AreWired}
 use Rattle.sim_run.proofs.Changes.{look-at}
 use Rattle.sim_run.proofs.Entries.{found_if, change_first-yes, change_first-no, is_call-standing, known-of, lookup-more, lookup-last}
 use Rattle.sim_run.proofs.Steps.{lives, most, Follows, is-over, over-look}
-use Rattle.sim_run.proofs.Begins.{Joined, All-snoc}
+use Rattle.sim_run.proofs.Begins.{Joined}
 use Rattle.sim_run.proofs.Brings.{found}
-use Rattle.sim_run.proofs.Fewer.{on_wire-length}
+use Rattle.sim_run.proofs.Setting.{on_wire-length}
 use Rattle.sim_run.proofs.Attempts.{all-append}
 use Rattle.sim_run.proofs.Named.{run-placed}
 use Rattle.sim_run.proofs.Passing.{passed-append, posted-passed, requests-append, in-append, requests-own, requests-other, ran, Speaks, place}

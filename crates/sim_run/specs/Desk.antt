@@ -13,10 +13,10 @@ use Rattle.rpc_model.specs.Versions.{width, offset_of}
 use Rattle.rpc_model.specs.declared.event.Event.{Event}
 use Rattle.rpc_model.specs.Kinds.{script_kinds}
 use Rattle.rpc_model.specs.State.{State, end_of}
-use Rattle.rpc_model.specs.Machine.{machine}
+use Rattle.rpc_model.specs.Machine.{start, machine}
 use Rattle.rpc_model.specs.Marks.{Begun}
 use Rattle.rpc_model.specs.Told.{Standing, begun, full, told_of, is_begun}
-use Rattle.id_pool.specs.Ids.{slot_of, version_of}
+use Rattle.id_pool.specs.Ids.{make_id, slot_of, version_of}
 use Rattle.id_pool.specs.Ranges.{Slot, Range, Vacant, Retired, Taken, Free, slot_at, look}
 use Rattle.id_pool.specs.Answers.{value_says}
 use Rattle.rpc_model.specs.declared.script.Script.{Script}
@@ -29,7 +29,7 @@ use Rattle.sim_run.specs.declared.state.Replay.{Replay}
 use Rattle.rpc_model.specs.Served.{AreServed}
 use Rattle.sim_run.specs.Marked.{AreMarked, AreOwned, IsFit}
 use Rattle.sim_run.specs.Link.{Link}
-use Rattle.sim_run.specs.Sends.{server_to}
+use Rattle.sim_run.specs.Sends.{server_to, posted}
 use Rattle.sim_run.specs.Wires.{idle_wires, on_wire, received, lost}
 use Rattle.rpc_model.specs.declared.event.Event.TheVariants as event
 use Rattle.sim_run.specs.declared.turn.Turn.TheVariants as turn
@@ -198,6 +198,12 @@ abbrev pub ticket_of : ℕ → Replay → Option Ticket
 ticket_of call replay = ticket_in (lookup (nat_eq call) replay.calls.entries)
 
 -- ---- the wires after a line
+
+-- a call begins in the slot that is free: what it sends at once goes out, under ids from its first one on
+abbrev pub first_wires : Option (ℕ × ℕ) → Option (Plan MapKind MergeKind) → ℕ → List ℕ → Replay → List Link
+first_wires None plan call text old = old.wires.items
+first_wires (Some free) None call text old = old.wires.items
+first_wires (Some free) (Some plan) call text old = posted (make_id free.0 free.1) plan call (start script_kinds plan call text old.reached).sends old.wires.items
 
 -- an event comes to a call by the call's own id
 abbrev pub event_wires : Option Ticket → Event → Replay → List Link

@@ -1,5 +1,5 @@
 -- What passes on the wires of a replay, one after the other: the requests of its calls, and the replies and losses of their attempts. This project's own choice.
-use Rattle.std.specs.Prelude.{ℕ, ◌+◌, Bool, false, ◌==◌, List, [], ◌∷◌, ◌++◌, filter, Option, None, Some}
+use Rattle.std.specs.Prelude.{◌≡◌, ℕ, ◌+◌, Bool, false, ◌==◌, List, [], ◌∷◌, ◌++◌, filter, Option, None, Some}
 use Rattle.rpc_model.specs.declared.kinds.MapKind.{MapKind}
 use Rattle.rpc_model.specs.declared.kinds.MergeKind.{MergeKind}
 use Rattle.rpc_model.specs.declared.meaning.Meaning.TheVariants.{Attempt}
@@ -25,6 +25,10 @@ passed_one (was_lost call server id) wires = on_wire server (lost id) wires
 abbrev pub passed : List Passage → List Link → List Link
 passed [] wires = wires
 passed (p ∷ ps) wires = passed ps (passed_one p wires)
+
+-- these wires are those after more passed
+abbrev pub HavePassed : List Link → List Link → Type 0
+HavePassed before after = (more : List Passage) × (after ≡ passed more before)
 
 abbrev pub request_at : Option ℕ → ℕ → ℕ → Send → List Passage
 request_at None first call send = []

@@ -13,9 +13,11 @@ ghost use Rattle.rpc_model.specs.Told as spec;
 ghost use Rattle.rpc_model.specs.declared.event.Event.TheVariants as event;
 ghost use Rattle.rpc_model.specs.Early.{settled};
 ghost use Rattle.call_tree.specs.Running.{IsEffects};
-ghost use Rattle.sim_run.specs.Desk.{IsReady, replay_of, ticket_of, IsNew, plan_of, event_wires, reply_wires, loss_wires, join_wires};
+ghost use Rattle.sim_run.specs.Desk.{IsReady, replay_of, ticket_of, IsNew, plan_of, first_wires, event_wires, reply_wires, loss_wires, join_wires};
 ghost use Rattle.sim_run.specs.Marked.{AreSettled, marked};
 ghost use Rattle.sim_run.specs.Sends.{posted};
+ghost use Rattle.sim_run.specs.Passages.{HavePassed};
+ghost use Rattle.id_pool.specs.Ranges.{lowest};
 ghost use Rattle.rpc_model.specs.declared.told.Told.TheVariants.{Full as full};
 
 use crate::acting::post;
@@ -25,7 +27,7 @@ use crate::planning::planned;
 use crate::slots::{bring, deliver, join, lose, take_slot};
 use crate::ticket::Ticket;
 use crate::turn::Turn;
-use crate::wire::Wire;
+use crate::wire::{Wire, clone_bytes};
 use crate::wires::{forget, open_wires, receive};
 use call_tree::Effects;
 use id_pool::Pool;
@@ -85,6 +87,7 @@ impl Replay {
         ensures settled { OnOk result (AreSettled moment self.new.pool) }
         ensures after { OnOk result (settled (replay_of self.new) ≡ settled (record (replay_of self.old) { reached = moment })) }
         ensures reached { OnOk result (self.new.reached ≡ moment) }
+        ensures passed { OnOk result (HavePassed self.old.wires.items self.new.wires.items) }
         ensures calls { OnOk result (self.new.calls ≡ self.old.calls) }
     {
         self.reached = moment;
@@ -145,6 +148,7 @@ impl Replay {
         requires new { lookup (nat_eq call) self.old.calls.entries ≡ None }
         ensures ready { OnOk result (IsReady script.now self.new) }
         ensures after { OnOk result (replay_of self.new ≡ spec.call_after script.now (replay_of self.old) self.old.reached call text.now (plan script.now.chans chan call)) }
+        ensures wires { OnOk result (self.new.wires.items ≡ first_wires (lowest self.old.pool) (plan script.now.chans chan call) call text.now self.old) }
         ensures tells { OnOk result (told.new.items ≡ told.old.items ++ spec.call_tells (spec.is_full script.now (replay_of self.old)) call (plan script.now.chans chan call)) }
         ensures calls { OnOk result (keys_of self.new.calls.entries ≡ keys_of self.old.calls.entries ++ call ∷ []) }
         ensures kept { OnErr result (told.new.items ≡ told.old.items) }
@@ -390,10 +394,4 @@ impl Replay {
             Act::Join { call } => self.join(script, *call, told),
         }
     }
-}
-
-fn clone_bytes(alloc: Global, bytes: &Bytes) -> Result<Bytes, NoMemory>
-    ensures { IfOk result (λ b. b ≡ bytes.now) }
-{
-    Ok(Bytes::of(Vec::from_slice(alloc, bytes.list())?))
 }

@@ -68,7 +68,7 @@ impl Wire {
         ensures reply { IfOk result (λ r. r ≡ record { id = id; code = code; text = text.now }) }
         ensures wire { OnOk result (self.new ≡ received (record { id = id; code = code; text = text.now }) self.old) }
     {
-        let text = Bytes::of(Vec::from_slice(self.alloc, text.list())?);
+        let text = clone_bytes(self.alloc, text)?;
         let sent = frame_of(self.alloc, Reply { id, code, text });
         let Some(reply) = reply_of(self.pass(&sent)?) else {
             unreachable!()
@@ -140,4 +140,11 @@ fn reply_of(frame: Frame) -> Option<Reply>
         code: reply_code(&frame.meta),
         text: frame.payload,
     })
+}
+
+/// The same bytes once more.
+pub(crate) fn clone_bytes(alloc: Global, bytes: &Bytes) -> Result<Bytes, NoMemory>
+    ensures { IfOk result (λ b. b ≡ bytes.now) }
+{
+    Ok(Bytes::of(Vec::from_slice(alloc, bytes.list())?))
 }

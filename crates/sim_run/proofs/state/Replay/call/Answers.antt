@@ -1,18 +1,19 @@
 -- The call takes the lowest vacant slot, or finds none.
-use Rattle.std.proofs.Common.{◌≡◌, sym, ap, subst, ◌∙◌}
+use Rattle.std.proofs.Common.{◌≡◌, sym, ap, subst, refl, ◌∙◌}
 use Rattle.std.specs.Arc.{arc_value}
 use Rattle.std.proofs.lemmas.List.{append-nil}
 use Rattle.rpc_model.specs.Kinds.{script_kinds}
 use Rattle.rpc_model.specs.Machine.{start}
 use Rattle.rpc_model.specs.Marks.{begin}
 use Rattle.rpc_model.specs.Versions.{width}
-use Rattle.id_pool.specs.Ranges.{created}
+use Rattle.id_pool.specs.Ranges.{created, lowest}
 use Rattle.call_tree.specs.Running.{IsEffects}
 use Rattle.sim_run.specs.declared.ticket.Ticket.{Ticket}
 use Rattle.sim_run.specs.Sends.{posted}
+use Rattle.sim_run.specs.Desk.{first_wires}
 use Rattle.sim_run.specs.Marked.{marked}
 use Rattle.sim_run.proofs.Steps.{plan-wide}
-use Rattle.sim_run.proofs.NewCalls.{place, no-place, call-ready, call-after, call-tells, full-ready, full-after, full-tells, first-low}
+use Rattle.sim_run.proofs.NewCalls.{place, no-place, call-ready, call-after, call-tells, full-ready, full-after, full-tells, first-low, first-wires}
 use Rattle.sim_run.proofs.state.Replay.call.Goals as goal
 
 pub take_slot-requires-clause-some : goal.take_slot-requires-clause-some
@@ -94,3 +95,19 @@ returns-clause-tells c =
     let wide : c.width-width.result ≡ width p = c.width-width.ensures ∙ ap width c.deref.ensures in
     let at = place c.args.self.now.pool c.width-width.result c.in-Some.first c.in_ok-open.open (rw wide (plan-wide p)) (rw wide c.in_ok-plan.ensures.narrow) c.in-Some.ensures.first in
     rw (call-tells c.args.self.now c.args.script.now c.args.call c.width-width.result c.in-Some.first c.in_ok-open.open _ p c.in_ok-plan.ensures.plan c.requires.ready at) (sym (append-nil c.args.told.now.items))
+
+pub returns-in_default-clause-wires : goal.returns-in_default-clause-wires
+returns-in_default-clause-wires c =
+    let p = arc_value c.in_ok-plan.plan in
+    let wide : c.width-width.result ≡ width p = c.width-width.ensures ∙ ap width c.deref.ensures in
+    let n = no-place c.args.self.now.pool c.width-width.result c.in_ok-open.open (rw wide (plan-wide p)) (rw wide c.in_ok-plan.ensures.narrow) c.in_default.ensures.first in
+    rw (c.in_ok-refuse.ensures.same.2, n.0) refl
+
+pub returns-clause-wires : goal.returns-clause-wires
+returns-clause-wires c =
+    let p = arc_value c.in_ok-plan.plan in
+    let shared : arc_value c.in_ok-shared.shared ≡ p = c.in_ok-shared.ensures.cases in
+    let run : IsEffects (start script_kinds p c.args.call c.args.text.now c.args.self.now.reached) c.in_ok-open.effects =
+    subst (λ t. IsEffects (start script_kinds p c.args.call t c.args.self.now.reached) c.in_ok-open.effects) c.in_ok-text.ensures (subst (λ q. IsEffects (start script_kinds q c.args.call c.in_ok-text.text c.args.self.now.reached) c.in_ok-open.effects) shared c.in_ok-open.ensures.effects) in
+    let wires = c.in_ok-begin.ensures.sent ∙ ap (λ ss. posted c.in-Some.first p c.args.call ss c.args.self.now.wires.items) run.sends in
+    wires ∙ first-wires c.args.self.now c.args.call c.in-Some.first c.args.text.now p _ c.in-Some.ensures.first ∙ ap (λ o. first_wires (lowest c.args.self.now.pool) o c.args.call c.args.text.now c.args.self.now) (sym c.in_ok-plan.ensures.plan)

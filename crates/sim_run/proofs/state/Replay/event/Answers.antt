@@ -1,5 +1,5 @@
 -- The event comes to the call that its first id finds.
-use Rattle.std.proofs.Common.{◌∙◌, sym, refl, ap, arith, List}
+use Rattle.std.proofs.Common.{◌∙◌, refl, ap, arith, List}
 use Rattle.rpc_model.specs.Told as spec
 use Rattle.sim_run.specs.Link.{Link}
 use Rattle.sim_run.specs.Desk.{event_wires}

@@ -5,7 +5,7 @@ use Rattle.rpc_model.specs.declared.event.Event.TheVariants as event
 use Rattle.rpc_model.specs.Told as spec
 use Rattle.timer_core.specs.declared.mark.Mark.{Mark}
 use Rattle.sim_run.specs.Link.{Link}
-use Rattle.sim_run.specs.Desk.{IsServedIn, IsAimed, AreWired, ticket_of, event_wires, loss_wires}
+use Rattle.sim_run.specs.Desk.{IsServedIn, IsAimed, AreWired, event_wires, loss_wires}
 use Rattle.sim_run.specs.Wires.{lost}
 use Rattle.sim_run.specs.Passages.{was_lost}
 use Rattle.sim_run.specs.declared.state.Replay.{Replay}

@@ -1,5 +1,5 @@
 -- One mark after the other is taken.
-use Rattle.std.proofs.Common.{refl, arith}
+use Rattle.std.proofs.Common.{refl, [], arith}
 use Rattle.sim_run.proofs.Marked.{marked-settled}
 use Rattle.sim_run.proofs.Reaching.{reaching-turn}
 use Rattle.sim_run.proofs.state.Replay.reach.Goals as goal
@@ -21,3 +21,8 @@ pub returns-clause-settled : goal.returns-clause-settled
 returns-clause-settled c =
     let r = c.taken.invariant in
     marked-settled c.args.moment c.taken.self.marks c.taken.self.pool r.ready.marked (c.in_default.ensures.none.0 refl)
+
+pub taken-init : goal.taken-init
+taken-init c =
+    let r = c.requires.ready in
+    record { ready = record { sound = r.sound; pool = r.pool; wired = r.wired; marked = r.marked; owned = r.owned; served = r.served }; reached = refl; calls = refl; alike = refl; passed = ([], refl) }
