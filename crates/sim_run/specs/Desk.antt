@@ -139,7 +139,8 @@ IsIn (told_of call) state = is_some (end_of state) ≡ true
 abbrev pub HasPlace : ℕ → Plan MapKind MergeKind → Send → Type 0
 HasPlace servers plan send = (is_some (offset_of plan (Attempt send.node send.attempt)) ≡ true) × (send.server < servers)
 
--- the requests of a call that has ids are those of the plain machine, which some events brought to where the call stands: each that it sent, in its order, and no other
+-- the requests of a call that has ids are those of the plain machine, which some events brought to where the call stands: each that it sent, in its
+-- order, and no other
 pub record HasSent (servers : ℕ) (log : List Passage) (call : ℕ) (ticket : Ticket) (standing : Standing) : Type 0 where
   pub request : List ℕ
   pub moment : ℕ
@@ -168,7 +169,8 @@ IsPassage entries (went_out call server id payload) = (ticket : Ticket) × (look
 IsPassage entries (came_in call server r) = IsAimed entries call server r.id
 IsPassage entries (was_lost call server id) = IsAimed entries call server id
 
--- The wires, one for each of so many servers, are as all that passed left them: what went out on each and which ids wait. Each call's requests are the plain machine's, and nothing else passed.
+-- The wires, one for each of so many servers, are as all that passed left them: what went out on each and which ids wait. Each call's requests are
+-- the plain machine's, and nothing else passed.
 pub record AreWired (servers : ℕ) (slots : List (Slot Begun)) (entries : List (ℕ × Option Ticket)) (wires : List Link) : Type 0 where
   pub log : List Passage
   pub left : wires ≡ passed log (idle_wires servers)
@@ -203,7 +205,8 @@ ticket_of call replay = ticket_in (lookup (nat_eq call) replay.calls.entries)
 abbrev pub first_wires : Option (ℕ × ℕ) → Option (Plan MapKind MergeKind) → ℕ → List ℕ → Replay → List Link
 first_wires None plan call text old = old.wires.items
 first_wires (Some free) None call text old = old.wires.items
-first_wires (Some free) (Some plan) call text old = posted (make_id free.0 free.1) plan call (start script_kinds plan call text old.reached).sends old.wires.items
+first_wires (Some free) (Some plan) call text old =
+    posted (make_id free.0 free.1) plan call (start script_kinds plan call text old.reached).sends old.wires.items
 
 -- an event comes to a call by the call's own id
 abbrev pub event_wires : Option Ticket → Event → Replay → List Link
@@ -212,13 +215,16 @@ event_wires (Some ticket) event old = (acts_by ticket.first (turned_by (turn.Eve
 
 abbrev pub wires_by : Option ℕ → (ℕ → Link → Link) → (ℕ → ℕ → Event) → Ticket → ℕ → ℕ → ℕ → Replay → List Link
 wires_by None change what ticket server node attempt old = event_wires (Some ticket) (what node attempt) old
-wires_by (Some id) change what ticket server node attempt old = (brought_wires what old.reached id old.pool (on_wire server (change id) old.wires.items) old.marks).0
+wires_by (Some id) change what ticket server node attempt old =
+    (brought_wires what old.reached id old.pool (on_wire server (change id) old.wires.items) old.marks).0
 
 abbrev pub attempt_wires : (ℕ → Link → Link) → (ℕ → ℕ → Event) → Option Ticket → ℕ → ℕ → ℕ → Replay → List Link
 attempt_wires change what None call node attempt old = old.wires.items
-attempt_wires change what (Some ticket) call node attempt old = wires_by (attempt_id ticket node attempt) change what ticket (server_to (plan_of ticket) call node attempt) node attempt old
+attempt_wires change what (Some ticket) call node attempt old =
+    wires_by (attempt_id ticket node attempt) change what ticket (server_to (plan_of ticket) call node attempt) node attempt old
 
--- A reply to an attempt comes in on the wire of its server, under its id, and by this id to the call; so does a loss. An attempt that the call's plan doesn't have has no id, and what becomes of it comes on no wire.
+-- A reply to an attempt comes in on the wire of its server, under its id, and by this id to the call; so does a loss. An attempt that the call's plan
+-- doesn't have has no id, and what becomes of it comes on no wire.
 abbrev pub reply_wires : Option Ticket → ℕ → ℕ → ℕ → ℕ → List ℕ → Replay → List Link
 reply_wires ticket call node attempt code text old =
     attempt_wires (λ id. received (record { id = id; code = code; text = text })) (λ n k. event.Reply n k code text) ticket call node attempt old

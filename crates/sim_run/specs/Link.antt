@@ -1,4 +1,5 @@
--- A wire: what went out on it, which ids wait for a reply, and how far what came in was read; and how a reply is spelled as a frame, by brpc's baidu_std document.
+-- A wire: what went out on it, which ids wait for a reply, and how far what came in was read; and how a reply is spelled as a frame, by brpc's
+-- baidu_std document.
 use Rattle.std.specs.Prelude.{◌≡◌, ℕ, ◌^◌, ◌<◌, ℤ, pos, negsuc, List, [], Option, None, Some}
 use Rattle.rpc_model.specs.declared.sent.Sent.{Sent}
 use Rattle.rpc_meta.specs.Meta.Answer.{reply_code_of}

@@ -1,4 +1,5 @@
--- What passes on the wires of a replay, one after the other: the requests of its calls, and the replies and losses of their attempts. This project's own choice.
+-- What passes on the wires of a replay, one after the other: the requests of its calls, and the replies and losses of their attempts. This project's
+-- own choice.
 use Rattle.std.specs.Prelude.{◌≡◌, ℕ, ◌+◌, Bool, false, ◌==◌, List, [], ◌∷◌, ◌++◌, filter, Option, None, Some}
 use Rattle.rpc_model.specs.declared.kinds.MapKind.{MapKind}
 use Rattle.rpc_model.specs.declared.kinds.MergeKind.{MergeKind}

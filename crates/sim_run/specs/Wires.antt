@@ -22,7 +22,8 @@ on_wire (suc server) f (wire ∷ wires) = wire ∷ on_wire server f wires
 
 -- a wire on which a request went out: its id waits from then on, behind all others
 abbrev pub sent : ℕ → ℕ → List ℕ → Link → Link
-sent id call payload wire = record wire { out = wire.out ++ record { id = id; payload = payload } ∷ []; waiting = without id wire.waiting ++ (id, call) ∷ [] }
+sent id call payload wire =
+    record wire { out = wire.out ++ record { id = id; payload = payload } ∷ []; waiting = without id wire.waiting ++ (id, call) ∷ [] }
 
 -- a wire on which a reply came in: its frame was read, and its id doesn't wait any more
 abbrev pub received : Reply → Link → Link
