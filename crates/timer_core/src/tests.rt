@@ -268,10 +268,11 @@ fn run_both(
         assert_eq!(rt; marks.next_moment(), plain.next_moment());
         return Ok(reached);
     }
-    let now = if number >> 60 == 11 {
-        reached.saturating_sub(distance)
-    } else {
-        reached.saturating_add(distance.min(65_537))
+    // Now and then before the moment reached, or far behind it, so that the base jumps past 2^32.
+    let now = match number >> 60 {
+        11 => reached.saturating_sub(distance),
+        12 => reached.saturating_add(distance.min(0x1_0000_0001)),
+        _ => reached.saturating_add(distance.min(65_537)),
     };
     for _ in 0..8 {
         assert_eq!(rt; marks.due(now), plain.due(now));
