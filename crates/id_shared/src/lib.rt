@@ -27,9 +27,15 @@ pub use ids::Ids;
 pub use pass::Pass;
 
 #[cfg(test)]
+mod meeting_tests;
+#[cfg(test)]
+mod post_race_tests;
+#[cfg(test)]
 mod post_tests;
 #[cfg(test)]
 mod race_tests;
+#[cfg(test)]
+mod retired_tests;
 #[cfg(test)]
 mod tests;
 #[cfg(test)]

@@ -16,9 +16,9 @@ use std::test::Fail;
 
 /// The receipts of the errors that were handed out under a range of ids.
 #[derive(Drop)]
-struct Book {
-    first: u64,
-    taken: Vec<Receipt>,
+pub(crate) struct Book {
+    pub(crate) first: u64,
+    pub(crate) taken: Vec<Receipt>,
 }
 
 impl Tenant for Book {
@@ -39,7 +39,7 @@ impl Tenant for Book {
 
 /// What a call answered, in plain words and numbers.
 #[derive(Clone, Copy, Debug, PartialEq, Eq)]
-enum Told {
+pub(crate) enum Told {
     Locked,
     Held(u64),
     Queued(u32, u64),
@@ -57,7 +57,7 @@ struct Taken {
 }
 
 // Unlocks; where errors came, it destroys the range instead.
-fn releases(ids: &Ids<Book>, pass: &mut Pass<Book>, hold: Hold, book: Book)
+pub(crate) fn releases(ids: &Ids<Book>, pass: &mut Pass<Book>, hold: Hold, book: Book)
     requires own { IsAtRest ids.now pass.old }
     requires holding { IsHolding pass.old hold book.taken.items }
     requires first { book.first ≡ first_id_of hold }
@@ -74,7 +74,7 @@ fn releases(ids: &Ids<Book>, pass: &mut Pass<Book>, hold: Hold, book: Book)
 }
 
 // Posts an error, and unlocks what it locks.
-fn tells_post(ids: &Ids<Book>, pass: &mut Pass<Book>, id: u64, code: u32) -> Told
+pub(crate) fn tells_post(ids: &Ids<Book>, pass: &mut Pass<Book>, id: u64, code: u32) -> Told
     requires own { IsAtRest ids.now pass.old }
     requires code { code < 65536 }
     ensures own { IsAtRest ids.now pass.new }

@@ -91,7 +91,7 @@ fn reserve_races<R: Wait>(
 }
 
 // The rest of `try_lock` in the first slot.
-fn tells_lock_from(ids: &Ids<Tally>, pass: &mut Pass<Tally>, word: u64) -> Told
+pub(crate) fn tells_lock_from(ids: &Ids<Tally>, pass: &mut Pass<Tally>, word: u64) -> Told
     requires own { IsAtRest ids.now pass.old }
     requires slot { 0 < ids.now.sizes.slots }
     requires word { (word < 2 ^ 62) × (code_in word ≡ 2) }
