@@ -6,7 +6,7 @@ cd "$(dirname "$0")/.." || exit 1
 program=crates/brpc_run/out/brpc_run
 passed=0
 failed=0
-for script in examples/*.script; do
+for script in examples/*.script examples/*/*.script; do
     if "$program" sim <"$script" | cmp -s - "${script%.script}.out"; then
         passed=$((passed + 1))
     else

@@ -1,4 +1,4 @@
--- Scripts with what their joins tell, computed: the rows of rows/trees/channels.rows, written by tools/rows_to_lemmas.py.
+-- Scripts with what their joins tell, computed: rows of rows/parallel.rows, rows/selective.rows and rows/partition.rows, written by tools/rows_to_lemmas.py.
 use Rattle.std.proofs.Common.{◌≡◌, ℕ, List, [], ◌∷◌, Option, Some, None, refl, codes}
 use Rattle.std.specs.Fmt.{digits}
 use Rattle.rpc_model.specs.declared.script.Act.{Act}
