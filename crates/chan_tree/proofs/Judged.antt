@@ -6,6 +6,7 @@ use Rattle.rpc_model.specs.declared.chan.LeafChan.{LeafChan}
 use Rattle.rpc_model.specs.declared.chan.Chan.TheVariants as chan
 use Rattle.rpc_model.specs.Plan.{Plan, plan, subs_of, tries}
 use Rattle.rpc_model.specs.Versions.{width}
+use Rattle.rpc_model.specs.Fits.{IsNarrow}
 use Rattle.rpc_model.specs.Faults.{deepest, chan_depth, depth, chan_missing, missing_part}
 use Rattle.chan_tree.specs.declared.measuring.Measure.{Measure}
 use Rattle.chan_tree.specs.declared.planning.PlanFault.TheVariants.{TooWide}
@@ -126,3 +127,12 @@ module _ {M G : Type 0} (chans : List (Chan M G)) (call : ℕ) where
 pub leaf-measured : {M G : Type 0} (chans : List (Chan M G)) (number call : ℕ) (leaf : LeafChan) (m : Measure) → slice_get chans number ≡ Some (chan.Leaf leaf) → m.depth ≡ 1 → m.missing ≡ None → m.width ≡ min 1025 (leaf.retry + 2) → m ≡ measure_at chans call number
 leaf-measured chans number call leaf m at d e w =
     same-measure m (measure_at chans call number) (rw at d) (rw at e) (rw at w)
+
+-- A plan that is built is the channel's, and narrow where that is.
+pub known_is : {M G : Type 0} (chans : List (Chan M G)) (number call : ℕ) (q : Plan M G) → IsPlanOf chans number call q → plan chans number call ≡ Some q
+unfolding IsPlanOf
+known_is chans number call q planned = planned
+
+pub known_narrow : {M G : Type 0} (chans : List (Chan M G)) (number call : ℕ) (q : Plan M G) → IsPlanOf chans number call q → IsNarrow (plan chans number call) → width q ≤ 1024
+unfolding IsPlanOf
+known_narrow chans number call q planned narrow = subst IsNarrow planned narrow

@@ -14,7 +14,7 @@ mod walking;
 
 pub use measuring::Measure;
 pub use places::last_up_to;
-pub use planning::{PlanFault, plan};
+pub use planning::{PlanFault, known_plan, plan};
 pub use plans::Plan;
 pub use rpc_model::{Chan, ParChan, PartChan, SelChan, Sub, Tag};
 pub use sound::are_sound;

@@ -1,4 +1,6 @@
 ghost use Rattle.std.specs.Prelude.{◌≡◌, ℕ, ◌<◌, ◌≤◌, length, Option, None, Some, IfOk, IfErr};
+ghost use Rattle.rpc_model.specs.Fits.{IsNarrow};
+ghost use Rattle.rpc_model.specs.Plan as spec;
 ghost use Rattle.chan_tree.specs.Sound.{AreSound};
 ghost use Rattle.chan_tree.specs.Asked.{IsRefused, IsGranted};
 ghost use Rattle.chan_tree.specs.Measures.{IsMeasureOf};
@@ -57,6 +59,25 @@ pub fn plan<M: Copy, G: Copy>(
     let Ok(plan) = tabled(alloc, tree) else {
         return Err(PlanFault::Memory);
     };
+    Ok(plan)
+}
+
+/// The plan of the channel of this number for a call of this number, where it is known to be no wider than 1,024. It
+/// takes a time that grows with the nodes of the plan, and looks at no other channel.
+#[tactic(auto, using(crate::proofs::Judged::known_narrow, crate::proofs::Judged::known_is))]
+pub fn known_plan<M: Copy, G: Copy>(
+    alloc: Global,
+    chans: &[Chan<M, G>],
+    number: u32,
+    call: u32,
+) -> Result<Plan<M, G>, NoMemory>
+    requires there { number < length chans.now }
+    requires sound { AreSound 0 chans.now }
+    requires narrow { IsNarrow (spec.plan chans.now number call) }
+    ensures plan { IfOk result (λ p. spec.plan chans.now number call ≡ Some p) }
+{
+    let tree = build(alloc, chans, number, call)?;
+    let plan = tabled(alloc, tree)?;
     Ok(plan)
 }
 

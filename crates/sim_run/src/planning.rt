@@ -7,7 +7,7 @@ ghost use Rattle.rpc_model.specs.Plan.{plan};
 ghost use Rattle.rpc_model.specs.Served.{AreServed};
 ghost use Rattle.rpc_model.specs.Versions.{width};
 
-use chan_tree::{Plan, PlanFault, plan};
+use chan_tree::{Plan, known_plan};
 use rpc_base::NoMemory;
 use rpc_model::{MapKind, MergeKind, Script};
 use std::alloc::Global;
@@ -27,11 +27,6 @@ pub(crate) fn planned(
     ensures narrow { IfOk result (λ p. width (arc_value p) ≤ 1024) }
     ensures served { IfOk result (λ p. AreServed script.now.servers (arc_value p)) }
 {
-    match plan(alloc, script.chans.list(), chan, call) {
-        Ok(plan) => Ok(Arc::new(alloc, plan)?),
-        Err(PlanFault::Memory) => Err(NoMemory),
-        Err(PlanFault::TooDeep(_)) => unreachable!(),
-        Err(PlanFault::MissingPart(_)) => unreachable!(),
-        Err(PlanFault::TooWide(_)) => unreachable!(),
-    }
+    let plan = known_plan(alloc, script.chans.list(), chan, call)?;
+    Ok(Arc::new(alloc, plan)?)
 }
