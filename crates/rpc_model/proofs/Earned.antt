@@ -10,8 +10,8 @@ use Rattle.rpc_model.specs.declared.event.Event.TheVariants as event
 use Rattle.rpc_model.specs.Leaf.{leaf_step}
 use Rattle.rpc_model.specs.declared.mapper.Mapped.{Mapped}
 use Rattle.rpc_model.specs.declared.mapper.Mapped.TheVariants as answer
-use Rattle.rpc_model.specs.Earned.{IsGood, HasLiveReply, GoodEndsNeedALiveReply}
-use Rattle.rpc_model.proofs.Replies.{HasGoodLeaf, HaveGoodLeaf, start-from, run-from}
+use Rattle.rpc_model.specs.Earned.{IsGood, HasLiveReply, GoodEndsNeedALiveReply, HasGoodLeaf, HaveGoodLeaf}
+use Rattle.rpc_model.proofs.Replies.{start-from, run-from}
 use Rattle.rpc_model.specs.Kinds.{Kinds}
 use Rattle.rpc_model.specs.Plan.{Rule, Plan, leaf_plan, par_plan, sel_plan, Plans, last_plan, plan_then}
 use Rattle.rpc_model.specs.Versions.{nodes}
@@ -108,7 +108,7 @@ module _ {M G : Type 0} (kinds : Kinds M G) where
   BelowEarned : Below M G → Type 0
   BelowEarned below = AreEarned below.states × (IsGood below.end → HaveGoodLeaf below.states)
 
-  earned-end : (state : State M G) → IsEarned state → IsGood (end_of state) → HasGoodLeaf state
+  pub earned-end : (state : State M G) → IsEarned state → IsGood (end_of state) → HasGoodLeaf state
   earned-end (waits plan) h g = g
   earned-end (leaf_state chan request leaf) h g = g
   earned-end (par_state par states) h g = h.0 g
@@ -127,7 +127,7 @@ module _ {M G : Type 0} (kinds : Kinds M G) where
       by (inl one) again = inl (earned-end state h.0 one)
       by (inr more) again = inr (again more)
 
-  waiting-earned : (plans : Plans M G) → AreEarned (waiting_states plans)
+  pub waiting-earned : (plans : Plans M G) → AreEarned (waiting_states plans)
   waiting-earned last_plan = tt
   waiting-earned (plan_then plan plans) = (tt, waiting-earned plans)
 
@@ -355,13 +355,16 @@ module _ {M G : Type 0} (kinds : Kinds M G) where
   run-earned call [] run h = h
   run-earned call (timed ∷ events) run h = run-earned call events (and_then run (step kinds call run.state timed.0 timed.1)) (call-step-earned call run.state timed.0 timed.1 h)
 
+  pub machine-earned : (plan : Plan M G) (call : ℕ) (request : List ℕ) (begun : ℕ) (events : List (Event × ℕ)) → IsEarned (machine kinds plan call request begun events).state
+  unfolding StartsEarned
+  machine-earned plan call request begun events = run-earned call events (start kinds plan call request begun) (start-earned 0 plan call request begun).0
+
   -- A call ends with a text only if a reply of code 0 came to an attempt that was live then.
   pub good-ends : GoodEndsNeedALiveReply kinds
-  unfolding StartsEarned
   good-ends plan call request begun events good =
       let first = start kinds plan call request begun in
       let last = machine kinds plan call request begun events in
-      by (run-from kinds call events first (earned-end last.state (run-earned call events first (start-earned 0 plan call request begun).0) good))
+      by (run-from kinds call events first (earned-end last.state (machine-earned plan call request begun events) good))
     where
       by : HasGoodLeaf (start kinds plan call request begun).state ⊎ HasLiveReply kinds call (start kinds plan call request begun).state events
           → HasLiveReply kinds call (start kinds plan call request begun).state events

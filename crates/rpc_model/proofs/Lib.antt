@@ -19,6 +19,7 @@ mod Even
 pub mod Ended
 mod Replies
 mod Earned
+mod GoodNodes
 mod Completions
 pub mod Weaves
 mod Finishes

@@ -8,7 +8,7 @@ use Rattle.rpc_model.specs.Leaf.{Leaf, leaf_step}
 use Rattle.rpc_model.proofs.Attempts.{NeedsReply, success-needs}
 use Rattle.rpc_model.specs.declared.mapper.Mapped.{Mapped}
 use Rattle.rpc_model.specs.declared.mapper.Mapped.TheVariants as answer
-use Rattle.rpc_model.specs.Earned.{IsGood, AnswersLeaf, Answers, AnswersOneOf, HasLiveReply}
+use Rattle.rpc_model.specs.Earned.{IsGood, AnswersLeaf, Answers, AnswersOneOf, HasLiveReply, HasGoodLeaf, HaveGoodLeaf}
 use Rattle.rpc_model.proofs.Ended.{leaf-ended}
 use Rattle.rpc_model.specs.Kinds.{Kinds}
 use Rattle.rpc_model.specs.Plan.{Plan, leaf_plan, par_plan, sel_plan, Plans, last_plan, plan_then}
@@ -17,19 +17,6 @@ use Rattle.rpc_model.specs.Parallel.{mapped, refused, Limits, limits, judged}
 use Rattle.rpc_model.specs.Selective.{next_try}
 use Rattle.rpc_model.specs.State.{State, waits, leaf_state, par_state, sel_state, States, last_state, state_then, Run, Below, end_of, waiting_states, quiet, and_then, size}
 use Rattle.rpc_model.specs.Machine.{par_started, sub_started, where_ended, start_at, start_subs, start_tries, node_of, new_end, leaf_run, par_at, par_stepped, sel_at, sel_stepped, step_tries, while_open, try_ended, try_run, is_left, start_waiting, step_at, step_subs, step, cancelled}
-
-module _ {M G : Type 0} where
-  -- a leaf of it has a good end
-  abbrev mutual
-    pub HasGoodLeaf : State M G → Type 0
-    HasGoodLeaf (waits plan) = ⊥
-    HasGoodLeaf (leaf_state chan request leaf) = IsGood leaf.end
-    HasGoodLeaf (par_state par states) = HaveGoodLeaf states
-    HasGoodLeaf (sel_state sel states) = HaveGoodLeaf states
-
-    pub HaveGoodLeaf : States M G → Type 0
-    HaveGoodLeaf last_state = ⊥
-    HaveGoodLeaf (state_then state states) = HasGoodLeaf state ⊎ HaveGoodLeaf states
 
 module _ {M G : Type 0} (kinds : Kinds M G) where
   -- there is one only where P

@@ -9,6 +9,7 @@ use Rattle.rpc_model.specs.Kinds.{Kinds}
 use Rattle.rpc_model.specs.Plan.{Plan}
 use Rattle.rpc_model.specs.State.{State, waits, leaf_state, par_state, sel_state, States, last_state, state_then, size, end_of}
 use Rattle.rpc_model.specs.Machine.{start, step, machine}
+use Rattle.rpc_model.specs.Paths.{node_at}
 
 abbrev pub IsGood : Option End → Type 0
 IsGood None = ⊥
@@ -36,6 +37,19 @@ module _ {M G : Type 0} where
     AnswersOneOf node last_state event = ⊥
     AnswersOneOf node (state_then state states) event = Answers node state event ⊎ AnswersOneOf (node + size state) states event
 
+module _ {M G : Type 0} where
+  -- a leaf at this node or below it has a text as its end
+  abbrev mutual
+    pub HasGoodLeaf : State M G → Type 0
+    HasGoodLeaf (waits plan) = ⊥
+    HasGoodLeaf (leaf_state chan request leaf) = IsGood leaf.end
+    HasGoodLeaf (par_state par states) = HaveGoodLeaf states
+    HasGoodLeaf (sel_state sel states) = HaveGoodLeaf states
+
+    pub HaveGoodLeaf : States M G → Type 0
+    HaveGoodLeaf last_state = ⊥
+    HaveGoodLeaf (state_then state states) = HasGoodLeaf state ⊎ HaveGoodLeaf states
+
 module _ {M G : Type 0} (kinds : Kinds M G) where
   -- one of these events is, in the state in which it is taken
   abbrev pub HasLiveReply : ℕ → State M G → List (Event × ℕ) → Type 0
@@ -46,3 +60,8 @@ module _ {M G : Type 0} (kinds : Kinds M G) where
   abbrev pub GoodEndsNeedALiveReply : Type 0
   GoodEndsNeedALiveReply = (plan : Plan M G) (call : ℕ) (request : List ℕ) (begun : ℕ) (events : List (Event × ℕ))
       → IsGood (end_of (machine kinds plan call request begun events).state) → HasLiveReply call (start kinds plan call request begun).state events
+
+  -- A node that has a text as its end, wherever it is in the tree, has a leaf at it or below it that has one.
+  abbrev pub GoodNodesHaveAGoodLeaf : Type 0
+  GoodNodesHaveAGoodLeaf = (path : List ℕ) (plan : Plan M G) (call : ℕ) (request : List ℕ) (begun : ℕ) (events : List (Event × ℕ)) (node : State M G)
+      → node_at path (machine kinds plan call request begun events).state ≡ Some node → IsGood (end_of node) → HasGoodLeaf node

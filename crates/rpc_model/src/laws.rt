@@ -4,7 +4,7 @@
 ghost use Rattle.rpc_model.specs.Kinds.{Kinds};
 ghost use Rattle.rpc_model.specs.Completions.{ParallelNodesStandByCompletions};
 ghost use Rattle.rpc_model.specs.Early.{DueMarksMayBeTakenAtOnce};
-ghost use Rattle.rpc_model.specs.Earned.{GoodEndsNeedALiveReply};
+ghost use Rattle.rpc_model.specs.Earned.{GoodEndsNeedALiveReply, GoodNodesHaveAGoodLeaf};
 ghost use Rattle.rpc_model.specs.Heard.{TextsNeedAReply, ToldAttemptsAreFew, ToldOnce};
 ghost use Rattle.rpc_model.specs.Late.{LateLinesTellNothing};
 ghost use Rattle.rpc_model.specs.Laws.{EndsStay, NodesStay, LeavesIssueFew, NodesAreOfThePlan, ParallelNodesAreEven, TriesAreFew, SendsAreOfTheState, SendsAreAttempts, NothingIsSentTwice, OffsetsAndMeaningsAreInverse, WeavesJoin};
@@ -92,6 +92,12 @@ pub fn nodes_are_of_the_plan<M, G>()
 /// A call ends with a text only if a reply of code 0 came to an attempt that was live then.
 pub fn good_ends_need_a_live_reply<M, G>()
     ensures { (kinds : Kinds M G) → GoodEndsNeedALiveReply kinds }
+{}
+
+/// A node that has a text as its end, wherever it is in the tree, has a leaf at it or below it that has one; and a leaf has
+/// one only by a reply of code 0 to a live attempt.
+pub fn good_nodes_have_a_good_leaf<M, G>()
+    ensures { (kinds : Kinds M G) → GoodNodesHaveAGoodLeaf kinds }
 {}
 
 /// The end of a parallel node, wherever it is in the tree, is that of its completions in the order in which they came, or
