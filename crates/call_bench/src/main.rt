@@ -1,16 +1,10 @@
-//! Measures and traces calls of many nodes. With the word `run` it times calls whose subs answer in rising, falling and mixed
-//! order. With the word `trace` it reads calls with their events, as `tools/plain_calls.py` writes them, and compares what
-//! each event makes its call do. Without a word it does nothing.
+//! Measures calls of many nodes. With the word `run` it times calls whose subs answer in rising, falling and mixed order.
+//! Without a word it does nothing.
 #![tactic(auto)]
 
-mod showing;
 mod subs;
-mod tracing;
-mod words;
 
 use crate::subs::{Order, answered, plan_of, turn};
-use crate::tracing::Trace;
-use std::io::Read;
 use std::process::ExitCode;
 use std::time::Instant;
 use std::{env, io};
@@ -21,30 +15,20 @@ const SUBS: [u32; 4] = [64, 128, 256, 511];
 /// How often each call is made.
 const TIMES: u32 = 200;
 
-/// The status for a line that isn't as wanted.
-const DIFFERS: u8 = 1;
-
-/// The status for want of memory, or of input.
-const NO_MEMORY: u8 = 9;
-
 fn main(rt: HostRuntime) -> ExitCode {
-    let word = match env::args(&rt) {
-        Ok(mut words) => words.nth(1),
-        Err(_) => return ExitCode::from(NO_MEMORY),
+    let Ok(mut words) = env::args(&rt) else {
+        return ExitCode::FAILURE;
     };
-    let Some(word) = word else {
+    let Some(word) = words.nth(1) else {
         return ExitCode::SUCCESS;
     };
-    if word.as_str() == "run" {
-        return match run(rt) {
-            Ok(()) => ExitCode::SUCCESS,
-            Err(_) => ExitCode::FAILURE,
-        };
+    if word.as_str() != "run" {
+        return ExitCode::FAILURE;
     }
-    if word.as_str() == "trace" {
-        return traced(rt);
+    match run(rt) {
+        Ok(()) => ExitCode::SUCCESS,
+        Err(_) => ExitCode::FAILURE,
     }
-    ExitCode::FAILURE
 }
 
 /// Times calls of some and of more subs, in each order.
@@ -74,28 +58,4 @@ fn run(rt: HostRuntime) -> io::Result<()> {
         }
     }
     Ok(())
-}
-
-/// Traces the calls of standard input.
-fn traced(rt: HostRuntime) -> ExitCode {
-    let mut text = Vec::new(rt.alloc());
-    let Ok(_) = rt.reader().read_to_end(&mut text) else {
-        return ExitCode::from(NO_MEMORY);
-    };
-    let mut trace = Trace::new(rt.alloc());
-    for line in text.as_slice().split(|b| *b == b'\n') {
-        let Ok(same) = trace.line(rt.alloc(), line) else {
-            return ExitCode::from(NO_MEMORY);
-        };
-        if !same {
-            let place = trace.lines();
-            let _ = println!(rt; "line {place} has something else than wanted");
-        }
-    }
-    let (same, differ, again) = (trace.same(), trace.differ(), trace.again());
-    let _ = println!(rt; "{same} as wanted, {differ} not, {again} applied again");
-    match differ {
-        0 => ExitCode::SUCCESS,
-        _ => ExitCode::from(DIFFERS),
-    }
 }
