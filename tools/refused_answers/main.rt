@@ -73,11 +73,16 @@ fn tried<R: Wait>(rt: &R, alloc: Global) -> Result<Found, NoMemory> {
     }
     for piece in [7, 1024] {
         let (why, written) = served(rt, alloc, piece)?;
-        if why == Served::Memory {
-            found.loops = found.loops.wrapping_add(1);
-            found.right = found.right && wanted.as_slice().starts_with(written.as_slice());
-        } else {
-            found.right = found.right && why == Served::Closed && written == wanted;
+        let is_front = wanted.as_slice().starts_with(written.as_slice());
+        match why {
+            Served::Closed => found.right = found.right && written == wanted,
+            Served::Memory => {
+                found.loops = found.loops.wrapping_add(1);
+                found.right = found.right && is_front;
+            }
+            // A wire in memory that finds none fails.
+            Served::ReadFault | Served::WriteFault if is_front => return Err(NoMemory),
+            _ => found.right = false,
         }
     }
     Ok(found)
