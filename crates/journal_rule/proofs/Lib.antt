@@ -1,0 +1,15 @@
+mod Table
+mod Rows
+mod Computed
+mod Tests
+mod Calls
+mod Ranges
+mod Ends
+mod Requests
+mod Sources
+mod Words
+mod Strays
+mod Fired
+mod Losses
+mod Cancels
+mod Lawful

@@ -1,0 +1,14 @@
+pub mod Calls
+pub mod Ranges
+pub mod Runs
+pub mod Ends
+pub mod Requests
+pub mod Sources
+pub mod Words
+pub mod Strays
+pub mod Fired
+pub mod Losses
+pub mod Cancels
+pub mod Lawful
+pub mod EndsText
+pub mod Judged
