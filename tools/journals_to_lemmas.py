@@ -1,7 +1,7 @@
 #!/usr/bin/env python3
 """Turns the rows of journals into a table of definitions, which the prover computes, or into one of a test.
 
-    tools/journals_to_lemmas.py antt rows/journals.rows > crates/journal_rule/proofs/Rows.antt
+    tools/journals_to_lemmas.py antt rows/journals.rows > crates/journal_rule/proofs/Journals.antt
     tools/journals_to_lemmas.py rust rows/journals.rows > crates/journal_rule/src/rows.rt
 """
 import sys
@@ -60,7 +60,7 @@ def codes(lines):
 
 ANTT = """\
 -- Journals with the parts of the rule that each breaks, computed: the rows of {source}, written by tools/journals_to_lemmas.py.
-use Rattle.std.proofs.Common.{{◌≡◌, ℕ, List, [], ◌∷◌, codes}}
+use Rattle.std.proofs.Common.{{ℕ, List, [], ◌∷◌, codes}}
 use Rattle.journal_rule.specs.declared.part.Part.TheVariants.{{{parts}}}
 use Rattle.journal_rule.proofs.Table.{{Row, row}}
 """
@@ -83,17 +83,36 @@ def antt(path):
             changed = [f"({at}, {codes(lines)})" for at, lines in changes]
             line = f"    row {listed(changed)} {listed(breaks)} ∷"
             if len(line) > 180:
-                line = "    row (" + " ∷\n        ".join(changed + ["[]"]) + f") {listed(breaks)} ∷"
+                line = "    row (" + " ∷\n    ".join(changed + ["[]"]) + f") {listed(breaks)} ∷"
             print(f"    -- {name}\n{line}")
         print("    []")
+
+
+RUST = """\
+//! Journals, and changes of their lines: the rows of {source}, written by tools/journals_to_lemmas.py.
+"""
 
 
 def quoted(lines):
     return '"' + "".join(line + "\\n" for line in lines) + '"'
 
 
+def rust(path):
+    print(RUST.format(source=path), end="")
+    for number, base in enumerate(bases(path), 1):
+        changes = [
+            f"    ({row}, {at}, {quoted(lines)}),"
+            for row, (_, changed, _) in enumerate(base.rows, 1)
+            for at, lines in changed
+        ]
+        print(f"\n/// {base.name[0].upper() + base.name[1:]}.\npub const JOURNAL_{number}: &str =\n    {quoted(base.journal)};")
+        print("\n/// The row, the line's number from 0, and what stands in its place.")
+        print(f"pub const CHANGES_{number}: [(usize, usize, &str); {len(changes)}] = [")
+        print("\n".join(changes) + "\n];")
+
+
 def main():
-    {"antt": antt}[sys.argv[1]](sys.argv[2])
+    {"antt": antt, "rust": rust}[sys.argv[1]](sys.argv[2])
 
 
 main()

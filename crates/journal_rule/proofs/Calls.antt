@@ -12,7 +12,7 @@ use Rattle.rpc_model.specs.declared.journal.Journal.{Journal}
 use Rattle.rpc_model.specs.Plan.{Plan}
 use Rattle.rpc_model.specs.Versions.{width}
 use Rattle.journal_rule.specs.Calls.{CallLine, call_lines, line_plan, IsCallOf, AreCallsOf, HasCalls, has_width, is_call_of, are_calls_of, has_calls}
-use Rattle.journal_rule.proofs.Tests.{always, never, at_most, inside}
+use Rattle.journal_rule.proofs.Decided.{always, never, at_most, inside}
 
 -- the plan has this width
 wide : (n : ℕ) (plan : Option (Plan MapKind MergeKind)) → Decides (has_width n plan) (option_map width plan ≡ Some n)

@@ -7,7 +7,7 @@ use Rattle.rpc_model.specs.declared.script.Script.{Script}
 use Rattle.rpc_model.specs.declared.journal.LaneLog.{LaneLog}
 use Rattle.rpc_model.specs.declared.journal.Journal.{Journal}
 use Rattle.journal_rule.specs.Cancels.{cancels_of, ids_of, HasCancels, has_cancels}
-use Rattle.journal_rule.proofs.Tests.{each}
+use Rattle.journal_rule.proofs.Decided.{each}
 
 pub cancels_decided : (script : Script) (journal : Journal) → Decides (has_cancels script journal) (HasCancels script journal)
 cancels_decided script journal =

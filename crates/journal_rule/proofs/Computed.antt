@@ -1,5 +1,5 @@
 -- The tables of journals, computed from their texts.
-use Rattle.std.proofs.Common.{refl}
+use Rattle.std.proofs.Common.{◌≡◌, [], Some, refl}
 use Rattle.std.specs.Fmt.{digits}
 use Rattle.hex.specs.Hex.{encode_with, decode_pairs}
 use Rattle.rpc_model.specs.Script.{script}
@@ -15,8 +15,24 @@ use Rattle.rpc_model.specs.Versions.{versions, width, offset_of, meaning_of}
 use Rattle.journal_text.specs.Drafts.{journal_of, with_pieces, with_line}
 use Rattle.journal_text.specs.Reading.{number, line_said, line_of}
 use Rattle.journal_rule.specs.Lawful.{broken_parts}
+use Rattle.journal_rule.specs.Judged.{texts_break, texts_tell}
+use Rattle.journal_rule.specs.Example.{example_script, example_journal, example_ends}
 use Rattle.journal_rule.proofs.Table.{AreRows, Tells}
-use Rattle.journal_rule.proofs.Rows as table
+use Rattle.journal_rule.proofs.Journals as table
+
+pub example_breaks : texts_break example_script 1 example_journal ≡ Some []
+unfolding script line_says words_say fixed_line serve_head par_head sel_head part_head leaf_line par_line sel_line part_line
+    call_line aim reply_line lose_line cancel_line tick_line join_line open_line new_server serve_line map_word merge_word kinds_word sub_word tag_word
+    number_or is_name new_name known_name server_names text wait attempt_word direction_word digits encode_with decode_pairs
+    journal_of with_pieces with_line number line_said line_of versions width offset_of meaning_of retriable broken_parts
+example_breaks = refl
+
+pub example_tells : texts_tell example_script example_journal ≡ Some example_ends
+unfolding script line_says words_say fixed_line serve_head par_head sel_head part_head leaf_line par_line sel_line part_line
+    call_line aim reply_line lose_line cancel_line tick_line join_line open_line new_server serve_line map_word merge_word kinds_word sub_word tag_word
+    number_or is_name new_name known_name server_names text wait attempt_word direction_word digits encode_with decode_pairs
+    journal_of with_pieces with_line number line_said line_of versions width offset_of meaning_of retriable told_text
+example_tells = refl
 
 pub one_call : AreRows table.script-1 table.lanes-1 table.journal-1 table.rows-1
 unfolding script line_says words_say fixed_line serve_head par_head sel_head part_head leaf_line par_line sel_line part_line

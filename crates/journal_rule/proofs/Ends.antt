@@ -8,7 +8,7 @@ use Rattle.rpc_model.specs.declared.journal.CallLog.{CallLog}
 use Rattle.rpc_model.specs.declared.journal.Journal.{Journal}
 use Rattle.journal_rule.specs.Runs.{end_by}
 use Rattle.journal_rule.specs.Ends.{IsOpenBefore, EndsAtLast, HasEnds, is_open_before, ends_at_last, has_ends}
-use Rattle.journal_rule.proofs.Tests.{always, itself, nothing, each}
+use Rattle.journal_rule.proofs.Decided.{always, itself, nothing, each}
 
 open_before : (script : Script) (call : CallLog) (log : List Entry) → Decides (is_open_before script call log) (IsOpenBefore script call log)
 open_before script call [] = always

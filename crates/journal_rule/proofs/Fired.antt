@@ -6,7 +6,7 @@ use Rattle.rpc_model.specs.declared.script.Script.{Script}
 use Rattle.rpc_model.specs.declared.journal.Fired.{Fired}
 use Rattle.rpc_model.specs.declared.journal.Journal.{Journal}
 use Rattle.journal_rule.specs.Fired.{Alarm, alarm, set_alarms, fired_alarms, alarm_count, IsOneSet, HasMarks, is_one_set, has_marks}
-use Rattle.journal_rule.proofs.Tests.{at_most, each}
+use Rattle.journal_rule.proofs.Decided.{at_most, each}
 
 mark_decided : (set_by_calls fired : List Alarm) (m : Fired) → Decides (is_one_set set_by_calls fired m) (IsOneSet set_by_calls fired m)
 mark_decided set_by_calls fired m =

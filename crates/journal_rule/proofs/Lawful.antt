@@ -18,7 +18,7 @@ use Rattle.journal_rule.specs.Fired.{has_marks}
 use Rattle.journal_rule.specs.Losses.{has_losses}
 use Rattle.journal_rule.specs.Cancels.{has_cancels}
 use Rattle.journal_rule.specs.Lawful.{IsLawful, failed, broken_parts, are_none, is_lawful}
-use Rattle.journal_rule.proofs.Tests.{always}
+use Rattle.journal_rule.proofs.Decided.{always}
 use Rattle.journal_rule.proofs.Calls.{calls_decided}
 use Rattle.journal_rule.proofs.Ranges.{ranges_decided}
 use Rattle.journal_rule.proofs.Ends.{ends_decided}

@@ -1,7 +1,7 @@
 mod Table
-mod Rows
+mod Journals
 mod Computed
-mod Tests
+mod Decided
 mod Calls
 mod Ranges
 mod Ends
@@ -13,3 +13,4 @@ mod Fired
 mod Losses
 mod Cancels
 mod Lawful
+mod Apart

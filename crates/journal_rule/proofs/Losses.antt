@@ -11,7 +11,7 @@ use Rattle.rpc_model.specs.declared.journal.LossNote.{LossNote}
 use Rattle.rpc_model.specs.declared.journal.WireLog.{WireLog}
 use Rattle.rpc_model.specs.declared.journal.Journal.{Journal}
 use Rattle.journal_rule.specs.Losses.{IsLostAfter, times_lost, went_out_on, IsLossOf, HasLosses, is_lost_after, is_loss_of, has_losses}
-use Rattle.journal_rule.proofs.Tests.{itself, at_most, each}
+use Rattle.journal_rule.proofs.Decided.{itself, at_most, each}
 
 after_decided : (how : How) (frames after : ℕ) → Decides (is_lost_after how frames after) (IsLostAfter how frames after)
 after_decided End frames after = Decides-eqb after frames

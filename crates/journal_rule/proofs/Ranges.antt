@@ -8,7 +8,7 @@ use Rattle.rpc_model.specs.declared.script.Script.{Script}
 use Rattle.rpc_model.specs.declared.journal.CallLog.{CallLog}
 use Rattle.rpc_model.specs.declared.journal.Journal.{Journal}
 use Rattle.journal_rule.specs.Ranges.{slot_in, version_in, slots, NamesSlot, calls_in_slot, sorted, Follow, HasRanges, names_slot, follow, has_place, has_ranges}
-use Rattle.journal_rule.proofs.Tests.{always, at_most, each}
+use Rattle.journal_rule.proofs.Decided.{always, at_most, each}
 
 pub slot_decided : (count id : ℕ) → Decides (names_slot count id) (NamesSlot count id)
 slot_decided count id = Decides-and (nat_le 1 (slot_in id)) (nat_le (slot_in id) count) (at_most 1 (slot_in id)) (at_most (slot_in id) count)

@@ -10,7 +10,7 @@ use Rattle.std.proofs.lemmas.Slice.Eq.{bytes_eq-Decides}
 use Rattle.rpc_model.specs.declared.script.Script.{Script}
 use Rattle.rpc_model.specs.declared.journal.Journal.{Journal}
 use Rattle.journal_rule.specs.Requests.{Request, sent, went_out, is_same_id, is_same, times, HasRequests, has_requests}
-use Rattle.journal_rule.proofs.Tests.{each, inside}
+use Rattle.journal_rule.proofs.Decided.{each, inside}
 
 same_id : (a b : Option ℕ) → Decides (is_same_id a b) (a ≡ b)
 same_id None None = (λ h. refl, λ h. refl)

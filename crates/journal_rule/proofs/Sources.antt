@@ -17,7 +17,7 @@ use Rattle.rpc_model.specs.declared.journal.CallLog.{CallLog}
 use Rattle.rpc_model.specs.declared.journal.Journal.{Journal}
 use Rattle.journal_rule.specs.Sources.{Source, sources, fate_at, event_at, NamesItsSource, origin_at, IsNamed, HasNamedSources, HasSources}
 use Rattle.journal_rule.specs.Sources.{is_event, is_origin, is_entry, is_some_of, names_its_source, is_named, has_named_sources, has_sources}
-use Rattle.journal_rule.proofs.Tests.{always, each, some_of}
+use Rattle.journal_rule.proofs.Decided.{always, each, some_of}
 
 same_event : (a b : Event) → Decides (is_event a b) (b ≡ a)
 same_event (Reply n k code text) (Reply m j c t) =

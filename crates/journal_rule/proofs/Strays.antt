@@ -7,7 +7,7 @@ use Rattle.rpc_model.specs.declared.entry.Fate.TheVariants as fate
 use Rattle.rpc_model.specs.declared.journal.Journal.{Journal}
 use Rattle.journal_rule.specs.Sources.{Said, Source, sources}
 use Rattle.journal_rule.specs.Strays.{may_stray, may_drop, IsRightlyUntaken, HasStrays, is_rightly_untaken, has_strays}
-use Rattle.journal_rule.proofs.Tests.{always, never, itself, each}
+use Rattle.journal_rule.proofs.Decided.{always, never, itself, each}
 
 untaken_decided : (script : Script) (lanes : ℕ) (journal : Journal) (said : Said) (f : Fate)
     → Decides (is_rightly_untaken script lanes journal said f) (IsRightlyUntaken script lanes journal said f)

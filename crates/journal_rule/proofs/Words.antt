@@ -11,7 +11,7 @@ use Rattle.rpc_model.specs.Gone.{gone_by}
 use Rattle.journal_rule.specs.Ranges.{slot_in, slots, names_slot}
 use Rattle.journal_rule.specs.Sources.{Said, id_said, Source, sources}
 use Rattle.journal_rule.specs.Words.{has_form, fits_calls, is_late_enough, ShowsGone, WasGone, HasGoneWords, shows_gone, was_gone, has_gone_words}
-use Rattle.journal_rule.proofs.Tests.{always, itself, each}
+use Rattle.journal_rule.proofs.Decided.{always, itself, each}
 use Rattle.journal_rule.proofs.Ranges.{slot_decided}
 
 word_decided : (count : ℕ) (calls : List CallLog) (said : Said) (word : ℕ) → Decides (shows_gone count calls said word) (ShowsGone count calls said word)

@@ -12,3 +12,5 @@ pub mod Cancels
 pub mod Lawful
 pub mod EndsText
 pub mod Judged
+pub mod Example
+pub mod Apart

@@ -1,6 +1,6 @@
 //! Laws of the rule, each as the contract of a function that does nothing: the tests that compute decide what the parts say.
 
-ghost use Rattle.std.specs.Prelude.{◌≡◌, ℕ, []};
+ghost use Rattle.std.specs.Prelude.{◌≡◌, ℕ, [], Some};
 ghost use Rattle.std.specs.Bool.{Decides};
 ghost use Rattle.rpc_model.specs.declared.script.Script.{Script};
 ghost use Rattle.rpc_model.specs.declared.journal.Journal.{Journal};
@@ -14,6 +14,9 @@ ghost use Rattle.journal_rule.specs.Strays.{HasStrays, has_strays};
 ghost use Rattle.journal_rule.specs.Fired.{HasMarks, has_marks};
 ghost use Rattle.journal_rule.specs.Losses.{HasLosses, has_losses};
 ghost use Rattle.journal_rule.specs.Cancels.{HasCancels, has_cancels};
+ghost use Rattle.journal_rule.specs.Apart.{RangesAreApart};
+ghost use Rattle.journal_rule.specs.Judged.{texts_break, texts_tell};
+ghost use Rattle.journal_rule.specs.Example.{example_script, example_journal, example_ends};
 ghost use Rattle.journal_rule.specs.Lawful.{IsLawful, is_lawful, broken_parts};
 
 /// A journal is lawful exactly where the test of the whole is true.
@@ -29,6 +32,13 @@ pub fn lawful_is_unbroken()
     ensures unbroken { (script : Script) (lanes : ℕ) (journal : Journal) → IsLawful script lanes journal → broken_parts script lanes journal ≡ [] }
 {}
 
+/// The texts of a run of one call: its journal breaks no part, and its join tells the reply.
+#[tactic(auto, using(crate::proofs::Computed::example_breaks, crate::proofs::Computed::example_tells))]
+pub fn the_example_is_lawful()
+    ensures lawful { texts_break example_script 1 example_journal ≡ Some [] }
+    ensures ends { texts_tell example_script example_journal ≡ Some example_ends }
+{}
+
 /// Whether the calls are the script's is decided by its test.
 #[tactic(auto, using(crate::proofs::Calls::calls_decided))]
 pub fn calls_are_decided()
@@ -39,6 +49,11 @@ pub fn calls_are_decided()
 #[tactic(auto, using(crate::proofs::Ranges::ranges_decided))]
 pub fn ranges_are_decided()
     ensures { (script : Script) (lanes : ℕ) (journal : Journal) → Decides (has_ranges script lanes journal) (HasRanges script lanes journal) }
+{}
+
+/// Where the ranges of each slot follow each other, no two calls of a slot have an id in common.
+pub fn ranges_are_apart()
+    ensures { RangesAreApart }
 {}
 
 /// Whether each call ends with its last entry is decided by its test.
