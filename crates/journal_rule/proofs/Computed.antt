@@ -75,3 +75,17 @@ unfolding script line_says words_say fixed_line serve_head par_head sel_head par
     number_or is_name new_name known_name server_names text wait attempt_word direction_word digits encode_with decode_pairs
     journal_of with_pieces with_line number line_said line_of versions width offset_of meaning_of retriable told_text
 parallel_calls-ends = refl
+
+pub selective_call : AreRows table.script-4 table.lanes-4 table.journal-4 table.rows-4
+unfolding script line_says words_say fixed_line serve_head par_head sel_head part_head leaf_line par_line sel_line part_line
+    call_line aim reply_line lose_line cancel_line tick_line join_line open_line new_server serve_line map_word merge_word kinds_word sub_word tag_word
+    number_or is_name new_name known_name server_names text wait attempt_word direction_word digits encode_with decode_pairs
+    journal_of with_pieces with_line number line_said line_of versions width offset_of meaning_of retriable broken_parts
+selective_call = refl
+
+pub selective_call-ends : Tells table.script-4 table.journal-4 table.ends-4
+unfolding script line_says words_say fixed_line serve_head par_head sel_head part_head leaf_line par_line sel_line part_line
+    call_line aim reply_line lose_line cancel_line tick_line join_line open_line new_server serve_line map_word merge_word kinds_word sub_word tag_word
+    number_or is_name new_name known_name server_names text wait attempt_word direction_word digits encode_with decode_pairs
+    journal_of with_pieces with_line number line_said line_of versions width offset_of meaning_of retriable told_text
+selective_call-ends = refl

@@ -291,3 +291,53 @@ rows-3 =
     -- the call ended before its last entry
     row ((2, ([])) ∷ (8, (codes "in 4294967300 0 676f gone 1076625408" ∷ [])) ∷ []) (Ends ∷ []) ∷
     []
+
+-- a selective call: its first try is lost, its second one comes too late for the deadline
+abbrev pub lanes-4 : ℕ
+lanes-4 = 1
+
+abbrev pub script-4 : List (List ℕ)
+script-4 =
+    codes "leaf x a retry=0 backup=-1 timeout=-1" ∷
+    codes "leaf y b retry=0 backup=-1 timeout=-1" ∷
+    codes "sel s retry=1 timeout=100 x y" ∷
+    codes "at 3 call 4 s q" ∷
+    codes "join 4" ∷
+    []
+
+abbrev pub ends-4 : List (List ℕ)
+ends-4 =
+    codes "4 fail 1008 2" ∷
+    []
+
+abbrev pub journal-4 : List (List ℕ)
+journal-4 =
+    codes "call 4 4294967297 5 0 3" ∷
+    codes "e 5 lost 1#0 1009 0 0" ∷
+    codes "e 110 deadline 0 0" ∷
+    codes "wire 0 bad" ∷
+    codes "out 4294967300 71" ∷
+    codes "loss 4294967300 1009 0 entry 4 0" ∷
+    codes "wire 1 end" ∷
+    codes "out 4294967301 71" ∷
+    codes "in 4294967301 0 71 gone 1076625408" ∷
+    codes "timer" ∷
+    codes "mark 103 110 4294967297 1008 entry 4 1" ∷
+    codes "lane 0" ∷
+    []
+
+abbrev pub rows-4 : List Row
+rows-4 =
+    -- as it stands
+    row ([]) ([]) ∷
+    -- the entry of a deadline is of a node that has ended, and the call stays open
+    row ((2, (codes "e 110 deadline 1 0" ∷ [])) ∷ []) (Ends ∷ Sources ∷ []) ∷
+    -- the entry of a loss names another wire
+    row ((1, (codes "e 5 lost 1#0 1009 1 0" ∷ [])) ∷ []) (Sources ∷ []) ∷
+    -- the second try went out under the id of the first
+    row ((7, (codes "out 4294967300 71" ∷ [])) ∷ []) (Requests ∷ []) ∷
+    -- a deadline with the code of a backup request
+    row ((10, (codes "mark 103 110 4294967297 1007 entry 4 1" ∷ [])) ∷ []) (Sources ∷ Marks ∷ []) ∷
+    -- a wire that carried too much may have lost an attempt before its first frame
+    row ((3, (codes "wire 0 full" ∷ [])) ∷ []) ([]) ∷
+    []

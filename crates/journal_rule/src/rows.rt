@@ -125,3 +125,16 @@ pub const CHANGES_3: [(usize, usize, &str); 11] = [
     (9, 2, ""),
     (9, 8, "in 4294967300 0 676f gone 1076625408\n"),
 ];
+
+/// A selective call: its first try is lost, its second one comes too late for the deadline.
+pub const JOURNAL_4: &str =
+    "call 4 4294967297 5 0 3\ne 5 lost 1#0 1009 0 0\ne 110 deadline 0 0\nwire 0 bad\nout 4294967300 71\nloss 4294967300 1009 0 entry 4 0\nwire 1 end\nout 4294967301 71\nin 4294967301 0 71 gone 1076625408\ntimer\nmark 103 110 4294967297 1008 entry 4 1\nlane 0\n";
+
+/// The row, the line's number from 0, and what stands in its place.
+pub const CHANGES_4: [(usize, usize, &str); 5] = [
+    (1, 2, "e 110 deadline 1 0\n"),
+    (2, 1, "e 5 lost 1#0 1009 1 0\n"),
+    (3, 7, "out 4294967300 71\n"),
+    (4, 10, "mark 103 110 4294967297 1007 entry 4 1\n"),
+    (5, 3, "wire 0 full\n"),
+];

@@ -1,4 +1,6 @@
-use crate::rows::{CHANGES_1, CHANGES_2, CHANGES_3, JOURNAL_1, JOURNAL_2, JOURNAL_3};
+use crate::rows::{
+    CHANGES_1, CHANGES_2, CHANGES_3, CHANGES_4, JOURNAL_1, JOURNAL_2, JOURNAL_3, JOURNAL_4,
+};
 use journal_text::{read_journal, write_journal};
 use std::alloc::{AllocError, Global};
 use std::process::Abort;
@@ -51,5 +53,6 @@ fn the_rows_are_texts_of_journals(rt: HostRuntime) -> Result<(), Fail> {
     let alloc = rt.alloc();
     are_journals(&rt, alloc, JOURNAL_1, &CHANGES_1)?;
     are_journals(&rt, alloc, JOURNAL_2, &CHANGES_2)?;
-    are_journals(&rt, alloc, JOURNAL_3, &CHANGES_3)
+    are_journals(&rt, alloc, JOURNAL_3, &CHANGES_3)?;
+    are_journals(&rt, alloc, JOURNAL_4, &CHANGES_4)
 }
