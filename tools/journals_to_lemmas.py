@@ -97,11 +97,18 @@ def quoted(lines):
     return '"' + "".join(line + "\\n" for line in lines) + '"'
 
 
+def changed_line(row, at, lines):
+    """A change as an element of the test's table, laid out as rt fmt lays it out."""
+    parts = [str(row), str(at), quoted(lines)]
+    short = ", ".join(parts)
+    return f"    ({short})," if len(short) <= 60 else "    (\n" + "".join(f"        {part},\n" for part in parts) + "    ),"
+
+
 def rust(path):
     print(RUST.format(source=path), end="")
     for number, base in enumerate(bases(path), 1):
         changes = [
-            f"    ({row}, {at}, {quoted(lines)}),"
+            changed_line(row, at, lines)
             for row, (_, changed, _) in enumerate(base.rows, 1)
             for at, lines in changed
         ]

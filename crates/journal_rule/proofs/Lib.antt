@@ -14,3 +14,4 @@ mod Losses
 mod Cancels
 mod Lawful
 mod Apart
+mod JoinsTell

@@ -14,3 +14,4 @@ pub mod EndsText
 pub mod Judged
 pub mod Example
 pub mod Apart
+pub mod JoinsTell

@@ -15,6 +15,7 @@ ghost use Rattle.journal_rule.specs.Fired.{HasMarks, has_marks};
 ghost use Rattle.journal_rule.specs.Losses.{HasLosses, has_losses};
 ghost use Rattle.journal_rule.specs.Cancels.{HasCancels, has_cancels};
 ghost use Rattle.journal_rule.specs.Apart.{RangesAreApart};
+ghost use Rattle.journal_rule.specs.JoinsTell.{FirstJoinsTellEnds};
 ghost use Rattle.journal_rule.specs.Judged.{texts_break, texts_tell};
 ghost use Rattle.journal_rule.specs.Example.{example_script, example_journal, example_ends};
 ghost use Rattle.journal_rule.specs.Lawful.{IsLawful, is_lawful, broken_parts};
@@ -60,6 +61,11 @@ pub fn ranges_are_apart()
 #[tactic(auto, using(crate::proofs::Ends::ends_decided))]
 pub fn ends_are_decided()
     ensures { (script : Script) (journal : Journal) → Decides (has_ends script journal) (HasEnds script journal) }
+{}
+
+/// Where the calls are the script's and each has its end, the first join of a call tells an end.
+pub fn first_joins_tell_ends()
+    ensures { FirstJoinsTellEnds }
 {}
 
 /// Whether what went out is what the calls send is decided by its test.

@@ -9,10 +9,10 @@ mod laws;
 mod part;
 
 pub use laws::{
-    calls_are_decided, cancels_are_decided, ends_are_decided, gone_words_are_decided,
-    lawful_is_decided, lawful_is_unbroken, losses_are_decided, marks_are_decided, ranges_are_apart,
-    ranges_are_decided, requests_are_decided, sources_are_decided, strays_are_decided,
-    the_example_is_lawful,
+    calls_are_decided, cancels_are_decided, ends_are_decided, first_joins_tell_ends,
+    gone_words_are_decided, lawful_is_decided, lawful_is_unbroken, losses_are_decided,
+    marks_are_decided, ranges_are_apart, ranges_are_decided, requests_are_decided,
+    sources_are_decided, strays_are_decided, the_example_is_lawful,
 };
 pub use part::Part;
 
