@@ -1,8 +1,8 @@
 #!/usr/bin/env python3
 """Turns the rows of journals into a table of definitions, which the prover computes, or into one of a test.
 
-    tools/journals_to_lemmas.py antt rows/journals.rows > crates/journal_rule/proofs/Journals.antt
-    tools/journals_to_lemmas.py rust rows/journals.rows > crates/journal_rule/src/rows.rt
+    tools/journals_to_lemmas.py antt rows/lawful.journals > crates/journal_rule/proofs/Journals.antt
+    tools/journals_to_lemmas.py rust rows/lawful.journals > crates/journal_rule/src/rows.rt
 """
 import sys
 
