@@ -1,5 +1,5 @@
 -- The text of the lines of calls, one after the other.
-use Rattle.std.proofs.Common.{◌≡◌, ℕ, suc, ◌+◌, List, [], ◌++◌, refl, codes}
+use Rattle.std.proofs.Common.{◌≡◌, ℕ, suc, ◌+◌, [], ◌++◌, refl, codes}
 use Rattle.script_gen.specs.Generator.{next_draw, call_lines, lines_from, setting_lines, generated}
 
 -- The settings come first.

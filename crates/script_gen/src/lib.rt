@@ -2,8 +2,10 @@
 #![tactic(auto)]
 
 mod draw;
+mod law;
 mod writing;
 
+pub use law::generated_scripts_are_accepted;
 pub use writing::generate;
 
 #[cfg(test)]

@@ -1,5 +1,5 @@
 -- The settings, one call after the other, and the end.
-use Rattle.std.proofs.Common.{rules, ◌≡◌, ◌∙◌, ◌++◌, ◌+◌, ◌-◌, ◌<◌, suc, string_bytes, arith, sym, ap, List, ℕ, append_assoc}
+use Rattle.std.proofs.Common.{rules, ◌≡◌, ◌∙◌, ◌++◌, ◌+◌, ◌-◌, suc, string_bytes, arith, sym, ap, List, ℕ, append_assoc}
 use Rattle.std.proofs.lemmas.List.{append-nil}
 use Rattle.script_gen.specs.Generator.{call_lines, lines_from, next_draw}
 use Rattle.script_gen.proofs.Texts.{settings_first, lines_more, lines_none}
