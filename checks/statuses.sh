@@ -13,14 +13,27 @@ expect() {
     fi
 }
 
-"$program" live </dev/null >/dev/null
-expect "$?" 2 'another word'
-"$program" </dev/null >/dev/null
-expect "$?" 2 'no word'
-"$program" sim x </dev/null >/dev/null
-expect "$?" 2 'a word more'
-"$program" $'\xff' </dev/null >/dev/null
-expect "$?" 2 'a word that is not text'
+# Words that name no command: nothing is read and nothing written.
+refused() {
+    expect "$(printf 'what\n' | "$program" "$@"; echo "status $?")" 'status 2' "the words '$*'"
+}
+refused
+for word in live check help --help -h --version -V '' 'sim ' Sim gen load $'\xff' -; do refused "$word"; done
+for word in x 1 '' --help -h $'\xff'; do refused sim "$word"; done
+for command in gen load; do
+    for count in 0 100001 01 +1 -1 '1 ' ' 1' 1.0 1e3 0x1 '' x 4294967297 18446744073709551617 99999999999999999999 $'\xff' --help -h; do
+        refused "$command" "$count"
+    done
+    refused "$command" 1 1
+    for count in 1 100000; do
+        "$program" "$command" "$count" </dev/null >/dev/null
+        expect "$?" 0 "the words '$command $count'"
+    done
+done
+refused live 2
+refused help sim
+refused -- sim
+refused sim sim sim
 "$program" sim <. >/dev/null
 expect "$?" 3 'a folder as the script'
 "$program" sim <&- >/dev/null

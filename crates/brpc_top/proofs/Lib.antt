@@ -1,3 +1,5 @@
 pub mod Written
-pub mod Words
 pub mod Complete
+pub mod Taken
+pub mod Counted
+pub mod Named

@@ -1,11 +1,13 @@
 -- What each status of the top call says of the bytes that were read and written. This project's own choice.
-use Rattle.std.specs.Prelude.{◌≡◌, ◌≢◌, ℕ, ◌+◌, ◌≤◌, ◌⊎◌, ◌↔◌, List, ◌∷◌, [], ◌++◌, length, take, codes, Option, None, Some, Result, Ok, Err}
+use Rattle.std.specs.Prelude.{◌≡◌, ◌≢◌, ℕ, ◌+◌, ◌≤◌, ◌⊎◌, List, ◌++◌, length, take, Option, None, Some, Result, Ok, Err}
 use Rattle.std.specs.Io.KnownBytes.{Appends, Consumes, IsAtEnd}
 use Rattle.rpc_base.specs.Causes.{Rose}
 use Rattle.rpc_model.specs.declared.script.Mode.TheVariants.{Sim}
 use Rattle.rpc_model.specs.declared.script.Script.{Script}
 use Rattle.rpc_model.specs.declared.script.Cause.{Cause}
 use Rattle.rpc_model.specs.declared.limits.TheConstants.{SCRIPT_LIMIT}
+use Rattle.brpc_top.specs.declared.command.Command.{Command}
+use Rattle.brpc_top.specs.declared.command.Command.TheVariants as asked
 use Rattle.brpc_top.specs.declared.input.ReadStop.{ReadStop}
 use Rattle.brpc_top.specs.declared.input.ReadStop.TheVariants.{Fault}
 use Rattle.brpc_top.specs.declared.status.Status.{Status}
@@ -13,6 +15,8 @@ use Rattle.brpc_top.specs.declared.status.Status.TheVariants.{Done, BadWords, Re
 use Rattle.rpc_model.specs.Script.{script}
 use Rattle.rpc_model.specs.Told.{told}
 use Rattle.rpc_model.specs.Text.{told_text, refused_text}
+use Rattle.script_gen.specs.Generator.{generated}
+use Rattle.brpc_top.specs.Summary.{summary}
 
 -- These bytes were read: all that the source had, or one byte past the limit of a script.
 pub record IsRead (left rest : Option (List ℕ)) (bytes : List ℕ) : Type 0 where
@@ -98,17 +102,50 @@ pub record IsDecided (left : Option (List ℕ)) (status : ℕ) : Type 0 where
   pub complete : IsAccepted left → status ≢ 3 → status ≢ 4 → (status ≡ 0) ⊎ (status ≡ 9)
   pub refuses_all : IsRefused left → status ≢ 3 → status ≢ 4 → (status ≡ 5) ⊎ (status ≡ 9)
 
--- the one list of words that is accepted
-abbrev pub sim : List (List ℕ)
-sim = codes "sim" ∷ []
+-- What writing these bytes owes, by its status.
+pub record IsWritten {K : Type 0} (bytes : List ℕ) (held written : Option (List ℕ)) (before now : ℕ) (sink_before sink_now : K) (status : ℕ) : Type 0 where
+  -- without a fault of the sink the status is 0 or 9
+  pub known : (status ≡ 0) ⊎ (status ≡ 4) ⊎ (status ≡ 9)
+  pub all_written : status ≡ 0 → Appends held written bytes
+  pub write_fault : status ≡ 4 → Rose before now
+  pub no_write_fault : status ≢ 4 → now ≡ before
+  pub part_written : status ≡ 4 → IsPartWritten held written bytes
+  pub memory : status ≡ 9 → sink_now ≡ sink_before
+
+-- The generated script of so many calls is one that the script grammar accepts, and this line sums up what its joins tell.
+abbrev pub IsSummary : ℕ → List ℕ → Type 0
+IsSummary count text = (accepted : Script) × (script Sim (generated count) ≡ Ok accepted) × (text ≡ summary count (told accepted))
+
+-- The line that sums up what the joins of the generated script tell was written.
+abbrev pub SumsUp : ℕ → (held written : Option (List ℕ)) → Type 0
+SumsUp count held written = (text : List ℕ) × IsSummary count text × Appends held written text
+
+-- A front of that line was written.
+abbrev pub SumsUpInPart : ℕ → (held written : Option (List ℕ)) → Type 0
+SumsUpInPart count held written = (text : List ℕ) × IsSummary count text × IsPartWritten held written text
+
+-- What a load of the generated script of so many calls owes, by its status.
+pub record IsLoad {K : Type 0} (count : ℕ) (held written : Option (List ℕ)) (before now : ℕ) (sink_before sink_now : K) (status : ℕ) : Type 0 where
+  -- without a fault of the sink the status is 0 or 9
+  pub known : (status ≡ 0) ⊎ (status ≡ 4) ⊎ (status ≡ 9)
+  pub sums_up : status ≡ 0 → SumsUp count held written
+  pub write_fault : status ≡ 4 → Rose before now
+  pub no_write_fault : status ≢ 4 → now ≡ before
+  pub part_written : status ≡ 4 → SumsUpInPart count held written
+  pub memory : status ≡ 9 → sink_now ≡ sink_before
 
 -- What the command that the words name owes, by its status.
-pub record IsRun {S K : Type 0} (words : List (List ℕ)) (source_before source_now : S) (sink_before sink_now : K) (replays decides : ℕ → Type 0) (status : ℕ) : Type 0 where
-  -- status 2 comes exactly where the words aren't accepted; nothing is read or written then
-  pub bad_words : (status ≡ 2) ↔ (words ≢ sim)
-  pub nothing_done : status ≡ 2 → (source_now ≡ source_before) × (sink_now ≡ sink_before)
-  pub sim_replays : words ≡ sim → replays status
-  pub sim_decided : words ≡ sim → decides status
+pub record IsRun {S K : Type 0} (command : Option Command) (source_before source_now : S) (sink_before sink_now : K)
+    (replays decides : ℕ → Type 0) (generates loads : ℕ → ℕ → Type 0) (status : ℕ) : Type 0 where
+  -- status 2 comes exactly where the words name no command, but that memory may run out; nothing is read or written then
+  pub bad_words : status ≡ 2 → command ≡ None
+  pub no_command : command ≡ None → (status ≡ 2) ⊎ (status ≡ 9)
+  pub nothing_done : command ≡ None → (source_now ≡ source_before) × (sink_now ≡ sink_before)
+  pub sim_replays : command ≡ Some asked.Sim → replays status
+  pub sim_decided : command ≡ Some asked.Sim → decides status
+  -- the source isn't touched by the other commands
+  pub gen_writes : (count : ℕ) → command ≡ Some (asked.Gen count) → generates count status × (source_now ≡ source_before)
+  pub load_sums_up : (count : ℕ) → command ≡ Some (asked.Load count) → loads count status × (source_now ≡ source_before)
 
 -- the number that the program ends with
 abbrev pub number_of : Status → ℕ

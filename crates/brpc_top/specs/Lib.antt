@@ -1,1 +1,4 @@
 pub mod Answers
+pub mod Program
+pub mod Summary
+pub mod Words

@@ -102,15 +102,62 @@ fn words_that_are_refused(rt: HostRuntime) -> Result<(), Fail> {
     for words in [
         [].as_slice(),
         &["live"],
-        &["sim", "x"],
+        &["help"],
+        &["--help"],
+        &["-h"],
         &[""],
         &["sim "],
-        &["--help"],
         &["Sim"],
+        &["sim", "x"],
+        &["sim", "1"],
+        &["sim", ""],
+        &["gen"],
+        &["load"],
+        &["gen", "0"],
+        &["gen", "100001"],
+        &["load", "0"],
+        &["load", "100001"],
+        &["gen", "01"],
+        &["gen", "+1"],
+        &["gen", "1 "],
+        &["gen", ""],
+        &["gen", "--help"],
+        &["gen", "4294967297"],
+        &["gen", "1", "1"],
     ] {
         let got = run_over(rt.alloc(), words, ROW, &WELL)?;
         assert_eq!(rt; got.status, 2);
         assert_eq!(rt; got.text.as_slice(), b"".as_slice());
+    }
+    Ok(())
+}
+
+const GENERATED: &str =
+    "open 64\nleaf x a,b,c retry=2 backup=50 timeout=400\nleaf y b,c retry=1 backup=-1 timeout=300\npar p fail=2 ok=0 timeout=600 x:index:cat y:same:cat x:split:cat\nsel s retry=1 timeout=-1 p x\nat 10 call 1 p u,v,w\nat 11 reply 1 1#0 0 t\njoin 1\n";
+
+/// The generated script of one call, its replay, and the line that sums that up; and a sink that fails.
+#[test]
+fn generated_script(rt: HostRuntime) -> Result<(), Fail> {
+    let summary = "calls 1 ok 0 fail 1 open 0 full 0 attempts 4\n";
+    for (words, script, text) in [
+        (["gen", "1"].as_slice(), "", GENERATED),
+        (&["sim"], GENERATED, "1 fail 1005 4\n"),
+        (&["load", "1"], "", summary),
+    ] {
+        let got = run_over(rt.alloc(), words, script, &WELL)?;
+        assert_eq!(rt; got.status, 0);
+        assert_eq!(rt; got.text.as_slice(), text.as_bytes());
+    }
+    let outside = Outside {
+        read_piece: 1,
+        failing_reads: &[0],
+        write_piece: 5,
+        failing_writes: &[2],
+    };
+    for (command, text) in [("gen", "open 64\nle"), ("load", "calls 1 ok")] {
+        let got = run_over(rt.alloc(), &[command, "1"], "", &outside)?;
+        assert_eq!(rt; got.status, 4);
+        assert_eq!(rt; got.text.as_slice(), text.as_bytes());
     }
     Ok(())
 }

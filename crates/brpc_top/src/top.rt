@@ -1,12 +1,17 @@
-ghost use Rattle.std.specs.Prelude.{◌≡◌, ◌↔◌, map, string_bytes, IsTrue, IfOk};
+ghost use Rattle.std.specs.Prelude.{◌≡◌, map, string_bytes, IfOk};
 ghost use Rattle.rpc_model.specs.declared.script.Mode.TheVariants as mode;
 ghost use Rattle.rpc_model.specs.Script.{script};
 ghost use Rattle.rpc_model.specs.Text.{told_text};
-ghost use Rattle.brpc_top.specs.Answers.{IsReplay, IsDecided, IsRun, output, status_of, number_of, sim};
+ghost use Rattle.script_gen.specs.Generator.{generated};
+ghost use Rattle.brpc_top.specs.Answers.{IsReplay, IsDecided, IsRun, IsWritten, IsLoad, output, status_of, number_of};
+ghost use Rattle.brpc_top.specs.Words.{command_of};
 
+use crate::command::Command;
+use crate::generated::{run_gen, run_load};
 use crate::input::{ReadStop, read_script_bytes};
 use crate::output::write_all;
 use crate::status::Status;
+use crate::words::read_words;
 use call_script::{ScriptFault, read_script, write_refusal, write_told};
 use rpc_base::{Failed, NoMemory, Sink, Source};
 use rpc_model::{Mode, Told};
@@ -15,23 +20,21 @@ use std::alloc::Global;
 
 /// Runs the command that the words name and answers the status that the program ends with.
 ///
-/// The list `sim` alone is accepted: it replays the script of the source, and what the joins tell goes to the sink. This
-/// is this project's own choice. The statuses are 2, the words aren't accepted, and those of `run_sim`.
+/// The lists `sim`, `gen N` and `load N` are accepted, with N decimal, without a needless zero, from 1 to 100,000: `sim`
+/// replays the script of the source, and what the joins tell goes to the sink; `gen N` writes the generated script of N
+/// calls; `load N` replays that script and writes one line that sums up what the joins tell. These are this project's own
+/// choice. The statuses are 2, the words aren't accepted, 9, memory ran out, and those of the commands.
 pub fn run<S: Source, K: Sink>(alloc: Global, words: &[String], source: &mut S, sink: &mut K) -> u8
-    ensures { IsRun (map (λ w. string_bytes w) words.now) source.old source.new sink.old sink.new (IsReplay (S.left source.old) (S.left source.new) (S.faults source.old) (S.faults source.new) (K.held sink.old) (K.held sink.new) (K.faults sink.old) (K.faults sink.new) sink.old sink.new) (IsDecided (S.left source.old)) result }
+    ensures { IsRun (command_of (map (λ w. string_bytes w) words.now)) source.old source.new sink.old sink.new (IsReplay (S.left source.old) (S.left source.new) (S.faults source.old) (S.faults source.new) (K.held sink.old) (K.held sink.new) (K.faults sink.old) (K.faults sink.new) sink.old sink.new) (IsDecided (S.left source.old)) (λ count. IsWritten (generated count) (K.held sink.old) (K.held sink.new) (K.faults sink.old) (K.faults sink.new) sink.old sink.new) (λ count. IsLoad count (K.held sink.old) (K.held sink.new) (K.faults sink.old) (K.faults sink.new) sink.old sink.new) result }
 {
-    if !is_sim(words) {
-        return Status::BadWords.number();
-    }
-    run_sim(alloc, source, sink)
-}
-
-fn is_sim(words: &[String]) -> bool
-    ensures { IsTrue result ↔ (map (λ w. string_bytes w) words.now ≡ sim) }
-{
-    match words {
-        [word] => word.as_str() == "sim",
-        _ => false,
+    let Ok(command) = read_words(alloc, words) else {
+        return Status::NoMemory.number();
+    };
+    match command {
+        None => Status::BadWords.number(),
+        Some(Command::Sim) => run_sim(alloc, source, sink),
+        Some(Command::Gen(count)) => run_gen(alloc, count, sink),
+        Some(Command::Load(count)) => run_load(alloc, count, sink),
     }
 }
 
