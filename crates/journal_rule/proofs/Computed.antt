@@ -34,58 +34,20 @@ unfolding script line_says words_say fixed_line serve_head par_head sel_head par
     journal_of with_pieces with_line number line_said line_of versions width offset_of meaning_of retriable told_text
 example_tells = refl
 
-pub one_call : AreRows table.script-1 table.lanes-1 table.journal-1 table.rows-1
+-- one call, three calls on two lanes, parallel calls, and a selective one
+tables_break : AreRows table.script-1 table.lanes-1 table.journal-1 table.rows-1 × AreRows table.script-2 table.lanes-2 table.journal-2 table.rows-2
+    × AreRows table.script-3 table.lanes-3 table.journal-3 table.rows-3 × AreRows table.script-4 table.lanes-4 table.journal-4 table.rows-4
 unfolding script line_says words_say fixed_line serve_head par_head sel_head part_head leaf_line par_line sel_line part_line
     call_line aim reply_line lose_line cancel_line tick_line join_line open_line new_server serve_line map_word merge_word kinds_word sub_word tag_word
     number_or is_name new_name known_name server_names text wait attempt_word direction_word digits encode_with decode_pairs
     journal_of with_pieces with_line number line_said line_of versions width offset_of meaning_of retriable broken_parts
-one_call = refl
+tables_break = (refl, refl, refl, refl)
 
-pub one_call-ends : Tells table.script-1 table.journal-1 table.ends-1
+-- what their joins tell
+tables_tell : Tells table.script-1 table.journal-1 table.ends-1 × Tells table.script-2 table.journal-2 table.ends-2
+    × Tells table.script-3 table.journal-3 table.ends-3 × Tells table.script-4 table.journal-4 table.ends-4
 unfolding script line_says words_say fixed_line serve_head par_head sel_head part_head leaf_line par_line sel_line part_line
     call_line aim reply_line lose_line cancel_line tick_line join_line open_line new_server serve_line map_word merge_word kinds_word sub_word tag_word
     number_or is_name new_name known_name server_names text wait attempt_word direction_word digits encode_with decode_pairs
     journal_of with_pieces with_line number line_said line_of versions width offset_of meaning_of retriable told_text
-one_call-ends = refl
-
-pub three_calls : AreRows table.script-2 table.lanes-2 table.journal-2 table.rows-2
-unfolding script line_says words_say fixed_line serve_head par_head sel_head part_head leaf_line par_line sel_line part_line
-    call_line aim reply_line lose_line cancel_line tick_line join_line open_line new_server serve_line map_word merge_word kinds_word sub_word tag_word
-    number_or is_name new_name known_name server_names text wait attempt_word direction_word digits encode_with decode_pairs
-    journal_of with_pieces with_line number line_said line_of versions width offset_of meaning_of retriable broken_parts
-three_calls = refl
-
-pub three_calls-ends : Tells table.script-2 table.journal-2 table.ends-2
-unfolding script line_says words_say fixed_line serve_head par_head sel_head part_head leaf_line par_line sel_line part_line
-    call_line aim reply_line lose_line cancel_line tick_line join_line open_line new_server serve_line map_word merge_word kinds_word sub_word tag_word
-    number_or is_name new_name known_name server_names text wait attempt_word direction_word digits encode_with decode_pairs
-    journal_of with_pieces with_line number line_said line_of versions width offset_of meaning_of retriable told_text
-three_calls-ends = refl
-
-pub parallel_calls : AreRows table.script-3 table.lanes-3 table.journal-3 table.rows-3
-unfolding script line_says words_say fixed_line serve_head par_head sel_head part_head leaf_line par_line sel_line part_line
-    call_line aim reply_line lose_line cancel_line tick_line join_line open_line new_server serve_line map_word merge_word kinds_word sub_word tag_word
-    number_or is_name new_name known_name server_names text wait attempt_word direction_word digits encode_with decode_pairs
-    journal_of with_pieces with_line number line_said line_of versions width offset_of meaning_of retriable broken_parts
-parallel_calls = refl
-
-pub parallel_calls-ends : Tells table.script-3 table.journal-3 table.ends-3
-unfolding script line_says words_say fixed_line serve_head par_head sel_head part_head leaf_line par_line sel_line part_line
-    call_line aim reply_line lose_line cancel_line tick_line join_line open_line new_server serve_line map_word merge_word kinds_word sub_word tag_word
-    number_or is_name new_name known_name server_names text wait attempt_word direction_word digits encode_with decode_pairs
-    journal_of with_pieces with_line number line_said line_of versions width offset_of meaning_of retriable told_text
-parallel_calls-ends = refl
-
-pub selective_call : AreRows table.script-4 table.lanes-4 table.journal-4 table.rows-4
-unfolding script line_says words_say fixed_line serve_head par_head sel_head part_head leaf_line par_line sel_line part_line
-    call_line aim reply_line lose_line cancel_line tick_line join_line open_line new_server serve_line map_word merge_word kinds_word sub_word tag_word
-    number_or is_name new_name known_name server_names text wait attempt_word direction_word digits encode_with decode_pairs
-    journal_of with_pieces with_line number line_said line_of versions width offset_of meaning_of retriable broken_parts
-selective_call = refl
-
-pub selective_call-ends : Tells table.script-4 table.journal-4 table.ends-4
-unfolding script line_says words_say fixed_line serve_head par_head sel_head part_head leaf_line par_line sel_line part_line
-    call_line aim reply_line lose_line cancel_line tick_line join_line open_line new_server serve_line map_word merge_word kinds_word sub_word tag_word
-    number_or is_name new_name known_name server_names text wait attempt_word direction_word digits encode_with decode_pairs
-    journal_of with_pieces with_line number line_said line_of versions width offset_of meaning_of retriable told_text
-selective_call-ends = refl
+tables_tell = (refl, refl, refl, refl)
