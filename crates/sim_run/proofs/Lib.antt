@@ -1,4 +1,5 @@
 pub mod Chans
+pub mod Coming
 pub mod Leaves
 pub mod Attempts
 pub mod Setting

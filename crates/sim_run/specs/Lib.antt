@@ -1,4 +1,5 @@
 pub mod Link
+pub mod Rounds
 pub mod Wires
 pub mod Sends
 pub mod Passages

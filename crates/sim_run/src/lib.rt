@@ -7,6 +7,7 @@ mod marking;
 mod open_call;
 mod planning;
 mod replaying;
+mod rounds;
 mod slots;
 mod state;
 mod ticket;

@@ -3,6 +3,7 @@ ghost use Rattle.rpc_model.specs.Fits.{Fits};
 ghost use Rattle.rpc_model.specs.Told as spec;
 ghost use Rattle.sim_run.specs.Desk.{IsFront};
 
+use crate::planning::Plans;
 use crate::state::Replay;
 use rpc_base::NoMemory;
 use rpc_model::{Script, Told};
@@ -17,9 +18,10 @@ pub fn replay(alloc: Global, script: &Script, told: &mut Vec<Told>) -> Result<()
     ensures front { OnErr result (IsFront told.old.items told.new.items (spec.told script.now)) }
 {
     let mut replay = Replay::open(alloc, script)?;
+    let mut plans = Plans::open(alloc, script)?;
     let acts = script.acts.list();
     for act in acts {
-        replay.step(alloc, script, act, told)?;
+        replay.step(alloc, script, &mut plans, act, told)?;
     }
     Ok(())
 }

@@ -1,29 +1,25 @@
 ghost use Rattle.std.specs.Prelude.{◌≡◌, ℕ, ◌+◌, ◌*◌, ◌^◌, ◌<◌, ◌≤◌, List, [], ◌∷◌, ◌++◌, max, nat_eq, length, find, Option, None, Some, OnOk, OnErr, IfOk};
-ghost use Rattle.std.specs.Arc.{arc_value};
 ghost use Rattle.std.specs.Map.{keys_of, lookup};
 ghost use Rattle.std.specs.Option.{option_map};
-ghost use Rattle.std.specs.List.{AllByRecursion, IsDistinct};
+ghost use Rattle.std.specs.List.{IsDistinct};
 ghost use Rattle.rpc_model.specs.Limits.{IsAct, called};
 ghost use Rattle.rpc_model.specs.Fits.{Fits, IsNarrow, BeginsNarrow};
-ghost use Rattle.rpc_model.specs.Kinds.{script_kinds};
-ghost use Rattle.rpc_model.specs.Machine.{start};
 ghost use Rattle.rpc_model.specs.Plan.{plan};
-ghost use Rattle.rpc_model.specs.Versions.{width};
 ghost use Rattle.rpc_model.specs.Told as spec;
 ghost use Rattle.rpc_model.specs.declared.event.Event.TheVariants as event;
 ghost use Rattle.rpc_model.specs.Early.{settled};
-ghost use Rattle.call_tree.specs.Running.{IsEffects};
 ghost use Rattle.sim_run.specs.Desk.{IsReady, replay_of, ticket_of, IsNew, plan_of, first_wires, event_wires, reply_wires, loss_wires, join_wires};
 ghost use Rattle.sim_run.specs.Marked.{AreSettled, marked};
 ghost use Rattle.sim_run.specs.Sends.{posted};
 ghost use Rattle.sim_run.specs.Passages.{HavePassed};
+ghost use Rattle.sim_run.specs.Rounds.{IsPlanned};
 ghost use Rattle.id_pool.specs.Ranges.{lowest};
 ghost use Rattle.rpc_model.specs.declared.told.Told.TheVariants.{Full as full};
 
 use crate::acting::post;
 use crate::marking::set_marks;
 use crate::open_call::OpenCall;
-use crate::planning::planned;
+use crate::planning::Plans;
 use crate::slots::{bring, deliver, join, lose, take_slot};
 use crate::ticket::Ticket;
 use crate::turn::Turn;
@@ -134,6 +130,7 @@ impl Replay {
         &mut self,
         alloc: Global,
         script: &Script,
+        plans: &mut Plans,
         call: u32,
         chan: u32,
         text: &Bytes,
@@ -141,6 +138,7 @@ impl Replay {
     ) -> Result<(), NoMemory>
         requires fits { Fits script.now }
         requires ready { IsReady script.now self.old }
+        requires planned { IsPlanned script.now.chans plans.old }
         requires few { length self.old.calls.entries ≤ 500000 }
         requires early { self.old.reached < 2 ^ 60 }
         requires chan { chan < length script.now.chans }
@@ -151,9 +149,10 @@ impl Replay {
         ensures wires { OnOk result (self.new.wires.items ≡ first_wires (lowest self.old.pool) (plan script.now.chans chan call) call text.now self.old) }
         ensures tells { OnOk result (told.new.items ≡ told.old.items ++ spec.call_tells (spec.is_full script.now (replay_of self.old)) call (plan script.now.chans chan call)) }
         ensures calls { OnOk result (keys_of self.new.calls.entries ≡ keys_of self.old.calls.entries ++ call ∷ []) }
+        ensures planned { OnOk result (IsPlanned script.now.chans plans.new) }
         ensures kept { OnErr result (told.new.items ≡ told.old.items) }
     {
-        let plan = planned(alloc, script, chan, call)?;
+        let plan = plans.of_call(alloc, script, chan, call)?;
         let width = plan.width();
         let shared = plan.clone()?;
         let text = clone_bytes(alloc, text)?;
@@ -338,11 +337,13 @@ impl Replay {
         &mut self,
         alloc: Global,
         script: &Script,
+        plans: &mut Plans,
         act: &Act,
         told: &mut Vec<Told>,
     ) -> Result<(), NoMemory>
         requires fits { Fits script.now }
         requires ready { IsReady script.now self.old }
+        requires planned { IsPlanned script.now.chans plans.old }
         requires few { length self.old.calls.entries ≤ 500000 }
         requires early { (spec.after script.now (replay_of self.old) act.now).reached < 2 ^ 60 }
         requires act { IsAct (length script.now.chans) act.now }
@@ -353,6 +354,7 @@ impl Replay {
         ensures reached { OnOk result (self.new.reached ≡ (spec.after script.now (replay_of self.old) act.now).reached) }
         ensures tells { OnOk result (told.new.items ≡ told.old.items ++ spec.tells script.now (replay_of self.old) act.now) }
         ensures calls { OnOk result (keys_of self.new.calls.entries ≡ keys_of self.old.calls.entries ++ called (act.now ∷ [])) }
+        ensures planned { OnOk result (IsPlanned script.now.chans plans.new) }
         ensures kept { OnErr result (told.new.items ≡ told.old.items) }
     {
         match act {
@@ -363,7 +365,7 @@ impl Replay {
                 text,
             } => {
                 self.reach(script, self.reached.max(*at))?;
-                self.call(alloc, script, *call, *chan, text, told)
+                self.call(alloc, script, plans, *call, *chan, text, told)
             }
             Act::Cancel { at, call } => {
                 self.reach(script, self.reached.max(*at))?;

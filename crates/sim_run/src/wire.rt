@@ -26,6 +26,8 @@ pub(crate) struct Wire {
     out: Outlog,
     outstanding: Outstanding,
     frames: Frames,
+    /// The bytes of the frame that came in last.
+    bytes: Vec<u8>,
 }
 
 impl Model for Wire {
@@ -47,6 +49,7 @@ impl Wire {
             out: Outlog::open(alloc),
             outstanding: Outstanding::open(alloc)?,
             frames: Frames::open(alloc),
+            bytes: Vec::new(alloc),
         })
     }
 
@@ -92,10 +95,10 @@ impl Wire {
         ensures wire { OnOk result (self.new ≡ record self.old { read = later self.old.read (length (frame_bytes frame.now)) }) }
     {
         begins_with_spelled();
-        let mut bytes = Vec::new(self.alloc);
-        write_frame(frame, &mut bytes)?;
+        self.bytes.clear();
+        write_frame(frame, &mut self.bytes)?;
         // The bytes of a frame that fits have no fault, so that only memory can be wanting.
-        let Ok(()) = self.frames.feed(&bytes) else {
+        let Ok(()) = self.frames.feed(&self.bytes) else {
             return Err(NoMemory);
         };
         let Some(frame) = self.frames.next() else {

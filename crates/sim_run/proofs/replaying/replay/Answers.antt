@@ -19,6 +19,7 @@ loop-act-init c = record {
   numbers = rw (c.in_ok-replay.ensures.none, c.list-acts.ensures) c.requires.calls_differ;
   few = omega (arith, ap (λ es. length (keys_of es)) c.in_ok-replay.ensures.none);
   acts = c.list-acts.ensures;
+  planned = c.in_ok-plans.ensures;
 }
 
 pub step-requires-clause-early : goal.step-requires-clause-early
@@ -56,4 +57,5 @@ loop-act-preserved c =
       numbers = turn-distinct (keys_of c.loop-act.replay.calls.entries) _ c.list-acts.result.now c.loop-act.act-index act c.loop-act-test.true c.act-item.is inv.numbers c.in_ok-step.ensures.calls;
       few = turn-few (keys_of c.loop-act.replay.calls.entries) _ act c.loop-act.act-index c.in_ok-step.ensures.calls inv.few;
       acts = inv.acts;
+      planned = c.in_ok-step.ensures.planned;
     }

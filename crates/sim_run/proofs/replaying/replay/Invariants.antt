@@ -6,6 +6,7 @@ use Rattle.rpc_model.specs.Limits.{called}
 use Rattle.rpc_model.specs.Told.{Replay, told, told_from}
 use Rattle.rpc_model.specs.Early.{settled}
 use Rattle.sim_run.specs.Desk.{IsReady, replay_of}
+use Rattle.sim_run.specs.Rounds.{IsPlanned}
 use Rattle.sim_run.proofs.Turns.{HasLed}
 use Rattle.sim_run.proofs.replaying.replay.Given as goal
 
@@ -20,4 +21,5 @@ invariant-loop-act l = record {
   numbers : IsDistinct nat_eq (keys_of l.replay.calls.entries ++ called (drop l.act-index l.acts));
   few : length (keys_of l.replay.calls.entries) ≤ l.act-index;
   acts : l.acts ≡ l.script.acts;
+  planned : IsPlanned l.script.chans l.plans;
 }
