@@ -1,5 +1,5 @@
 #!/usr/bin/env bash
-# Refuses each allocation of an echo server in turn (refused_answers/main.rt): an answer that met want of memory leaves the
+# Refuses each allocation of an echo server in turn (refused_answers/main.rattle): an answer that met want of memory leaves the
 # server as before, and a serving loop that met it has written a front of what it would have. It goes on until twelve runs
 # in a row met none. The program is interpreted, some seconds a run; no gate needs it.
 set -u

@@ -2,7 +2,7 @@
 # Applies events to calls and compares what each makes its call do with the plain machine by hand (plain_calls.py): with
 # rows files the calls of their scripts, without one each event at each node of a tree of depth 4. With the word `refuse`
 # it refuses each allocation of five calls in turn: the call has to stand as before, and to go on as if nothing had been.
-# The program is interpreted (trace_calls/main.rt); no gate needs it.
+# The program is interpreted (trace_calls/main.rattle); no gate needs it.
 set -eu
 cd "$(dirname "$0")/.."
 . tools/interpreted.sh
