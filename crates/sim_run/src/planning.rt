@@ -1,12 +1,13 @@
 //! The plans of calls.
 
-ghost use Rattle.std.specs.Prelude.{◌≡◌, ℕ, ◌+◌, ◌*◌, ◌<◌, ◌≤◌, length, slice_get, set, Some, None, IfOk, IfSome, OnOk};
+ghost use Rattle.std.specs.Prelude.{◌≡◌, ◌≢◌, ℕ, ◌+◌, ◌*◌, ◌<◌, ◌≤◌, length, slice_get, set, Some, None, IfOk, IfSome, OnOk};
 ghost use Rattle.std.specs.Arc.{arc_value};
 ghost use Rattle.rpc_model.specs.Fits.{Fits, IsNarrow};
 ghost use Rattle.rpc_model.specs.Plan.{plan};
 ghost use Rattle.rpc_model.specs.Served.{AreServed};
 ghost use Rattle.rpc_model.specs.Versions.{width};
 ghost use Rattle.sim_run.specs.Rounds.{IsPlanned};
+ghost use Rattle.sim_run.specs.declared.planning.Shared.{Shared};
 
 use crate::rounds::{MOST, round_at, rounds_of};
 use chan_tree::{Plan, known_plan};
@@ -94,9 +95,6 @@ fn nothing_kept(alloc: Global, places: usize) -> Result<Vec<Option<Shared>>, NoM
     }
     Ok(kept)
 }
-
-ghost use Rattle.std.specs.Prelude.{◌≢◌};
-ghost use Rattle.sim_run.specs.declared.planning.Shared.{Shared};
 
 /// The plan that stands at a place.
 fn kept_at(kept: &[Option<Shared>], place: usize) -> Option<&Shared>

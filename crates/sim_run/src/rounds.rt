@@ -1,7 +1,7 @@
 //! After how many calls the plans of a channel come round again: a selective channel turns over its subs by the call's
 //! number.
 
-ghost use Rattle.std.specs.Prelude.{◌≡◌, ◌%◌, get_or, IfOk};
+ghost use Rattle.std.specs.Prelude.{◌≡◌, ◌%◌, get_or, length, IfOk};
 ghost use Rattle.rpc_model.specs.Plan.{subs_of};
 ghost use Rattle.chan_tree.specs.Measures.{numbers_of};
 ghost use Rattle.chan_tree.specs.Sound.{AreSound};
@@ -65,8 +65,6 @@ fn over_tries(rounds: &[u32], subs: &[u32]) -> u32
     }
     round
 }
-
-ghost use Rattle.std.specs.Prelude.{length};
 
 /// A multiple of this count: 0 where it is too large.
 fn turn_of(count: usize) -> u32
