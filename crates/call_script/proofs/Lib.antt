@@ -1,3 +1,4 @@
+pub mod Begun
 pub mod Depths
 pub mod Digits
 pub mod Each

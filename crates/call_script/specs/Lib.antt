@@ -1,3 +1,4 @@
+pub mod Appending
 pub mod Depths
 pub mod Judged
 pub mod Named

@@ -1,13 +1,16 @@
 //! What a replay tells, as text.
 
-ghost use Rattle.std.specs.Prelude.{◌≡◌, ◌++◌, OnOk, OnErr, IfOk, string_bytes};
+ghost use Rattle.std.specs.Prelude.{◌≡◌, ◌++◌, OnOk, OnErr};
+ghost use Rattle.std.specs.Fmt.{decimal};
 ghost use Rattle.rpc_model.specs.Text.{told_line, refused_text, cause_word, text_word as word_of_text};
 ghost use Rattle.rpc_model.specs.declared.told.Told.TheVariants as told;
 ghost use Rattle.rpc_model.specs.declared.event.End.TheVariants as end;
+ghost use Rattle.call_script.specs.Appending.{Begins};
 
+use itoa::Buffer;
 use rpc_base::NoMemory;
 use rpc_model::{Cause, End, Told};
-use std::alloc::{AllocError, Global};
+use std::alloc::Global;
 
 /// Appends the output line of what was told. After want of memory `to` is as before.
 ///
@@ -17,44 +20,71 @@ pub fn write_told(alloc: Global, told: &Told, to: &mut Vec<u8>) -> Result<(), No
     ensures line { OnOk result (to.new.items ≡ to.old.items ++ told_line told.now) }
     ensures err { OnErr result (to.new.items ≡ to.old.items) }
 {
-    let line = told_text(alloc, told)?;
-    to.extend_from_slice(&line)?;
+    let before = to.len();
+    match put_told(told, to) {
+        Ok(()) => Ok(()),
+        Err(NoMemory) => {
+            to.truncate(before);
+            Err(NoMemory)
+        }
+    }
+}
+
+fn put_told(told: &Told, to: &mut Vec<u8>) -> Result<(), NoMemory>
+    ensures line { OnOk result (to.new.items ≡ to.old.items ++ told_line told.now) }
+    ensures begun { OnErr result (Begins to.old.items to.new.items) }
+{
+    match told {
+        Told::Ended(call, end, attempts) => put_ended(*call, end, *attempts, to),
+        Told::Unended(call) => put_number(*call, b" open\n", to),
+        Told::Full(call) => put_number(*call, b" full\n", to),
+        Told::Gone(call) => put_number(*call, b" gone\n", to),
+    }
+}
+
+fn put_ended(call: u32, end: &End, attempts: u32, to: &mut Vec<u8>) -> Result<(), NoMemory>
+    ensures line { OnOk result (to.new.items ≡ to.old.items ++ told_line (told.Ended call end.now attempts)) }
+    ensures begun { OnErr result (Begins to.old.items to.new.items) }
+{
+    match end {
+        End::Good(text) => put_good(call, attempts, text.list(), to),
+        End::Bad(code) => put_bad(call, *code, attempts, to),
+    }
+}
+
+#[tactic(auto, using(crate::proofs::Begun::begun_past))]
+fn put_bad(call: u32, code: u32, attempts: u32, to: &mut Vec<u8>) -> Result<(), NoMemory>
+    ensures line { OnOk result (to.new.items ≡ to.old.items ++ told_line (told.Ended call (end.Bad code) attempts)) }
+    ensures begun { OnErr result (Begins to.old.items to.new.items) }
+{
+    put_number(call, b" fail ", to)?;
+    put_number(code, b" ", to)?;
+    put_number(attempts, b"\n", to)?;
     Ok(())
 }
 
-fn told_text(alloc: Global, told: &Told) -> Result<Vec<u8>, AllocError>
-    ensures { IfOk result (λ line. line.items ≡ told_line told.now) }
+#[tactic(auto, using(crate::proofs::Begun::begun_past))]
+fn put_good(call: u32, attempts: u32, text: &[u8], to: &mut Vec<u8>) -> Result<(), NoMemory>
+    ensures line { OnOk result (to.new.items ≡ to.old.items ++ told_line (told.Ended call (end.Good text.now) attempts)) }
+    ensures begun { OnErr result (Begins to.old.items to.new.items) }
 {
-    match told {
-        Told::Ended(call, end, attempts) => ended_text(alloc, *call, end, *attempts),
-        Told::Unended(call) => Ok(format!(in alloc; "{call} open\n")?.into_bytes()),
-        Told::Full(call) => Ok(format!(in alloc; "{call} full\n")?.into_bytes()),
-        Told::Gone(call) => Ok(format!(in alloc; "{call} gone\n")?.into_bytes()),
-    }
+    put_number(call, b" ok ", to)?;
+    put_number(attempts, b" ", to)?;
+    to.extend_from_slice(text_word(text))?;
+    to.push(b'\n')?;
+    Ok(())
 }
 
-fn ended_text(alloc: Global, call: u32, end: &End, attempts: u32) -> Result<Vec<u8>, AllocError>
-    ensures { IfOk result (λ line. line.items ≡ told_line (told.Ended call end.now attempts)) }
+/// Appends a number and what stands behind it.
+#[tactic(auto, using(crate::proofs::Begun::begun_past))]
+fn put_number(number: u32, behind: &[u8], to: &mut Vec<u8>) -> Result<(), NoMemory>
+    ensures written { OnOk result (to.new.items ≡ to.old.items ++ (decimal number ++ behind.now)) }
+    ensures begun { OnErr result (Begins to.old.items to.new.items) }
 {
-    match end {
-        End::Good(text) => good_text(alloc, call, attempts, text.list()),
-        End::Bad(code) => bad_text(alloc, call, *code, attempts),
-    }
-}
-
-fn bad_text(alloc: Global, call: u32, code: u32, attempts: u32) -> Result<Vec<u8>, AllocError>
-    ensures { IfOk result (λ line. line.items ≡ told_line (told.Ended call (end.Bad code) attempts)) }
-{
-    Ok(format!(in alloc; "{call} fail {code} {attempts}\n")?.into_bytes())
-}
-
-fn good_text(alloc: Global, call: u32, attempts: u32, text: &[u8]) -> Result<Vec<u8>, AllocError>
-    ensures { IfOk result (λ line. line.items ≡ told_line (told.Ended call (end.Good text.now) attempts)) }
-{
-    let mut line = format!(in alloc; "{call} ok {attempts} ")?.into_bytes();
-    line.extend_from_slice(text_word(text))?;
-    line.push(b'\n')?;
-    Ok(line)
+    let mut buffer = Buffer::new();
+    to.extend_from_slice(buffer.format(number).as_bytes())?;
+    to.extend_from_slice(behind)?;
+    Ok(())
 }
 
 /// The word that a text is written as: a dash for the empty text.
