@@ -127,7 +127,12 @@ fn a_long_journal_is_read_and_written(rt: HostRuntime) -> Result<(), Fail> {
         }
     }
     text.push_str("timer\nlane 0\n")?;
-    let journal = read(&rt, alloc, text.as_bytes())?;
+    let text = text.into_bytes();
+    assert!(rt; text.len() < 1 << 32);
+    let journal = read_journal(alloc, &text)?;
     assert_eq!(rt; journal.calls.list().len(), 4096);
+    let mut bytes = Vec::new(alloc);
+    write_journal(&journal, &mut bytes)?;
+    assert!(rt; bytes == text);
     Ok(())
 }
