@@ -1,7 +1,6 @@
 -- The table of commands, and what the reader of words sees of a list.
-use Rattle.std.proofs.Common.{◌≡◌, ℕ, ◌≤◌, Bool, true, false, cond, ◌==◌, ◌&&◌, ◌||◌, nat_le, List, [], ◌∷◌, Option, Some, None, refl, codes, sym, ap, ap₂, ◌∙◌, is_some, bytes_eq, if◌then◌else◌}
+use Rattle.std.proofs.Common.{◌≡◌, ℕ, ◌≤◌, Bool, true, false, List, [], ◌∷◌, Option, Some, None, refl, codes, sym, ap, ◌∙◌, is_some, bytes_eq, if◌then◌else◌}
 use Rattle.std.proofs.lemmas.Bool.{true≢false, eqb-true}
-use Rattle.rpc_model.specs.Words.{is_numeral, digits_after}
 use Rattle.brpc_top.specs.declared.command.Command.{Command}
 use Rattle.brpc_top.specs.declared.command.Command.TheVariants.{Sim, Gen, Load}
 use Rattle.brpc_top.specs.Words.{is_dashed, pair_of, judged, command_of, count_of, counted}

@@ -1,5 +1,5 @@
 -- What the command makes of words without a hyphen in front.
-use Rattle.std.proofs.Common.{◌≡◌, ℕ, Bool, true, false, List, [], ◌∷◌, Option, Some, None, refl, codes, sym, ap, ◌∙◌, ◌==◌, ◌||◌, ◌&&◌, is_some, ap₂, if◌then◌else◌, option_and_then, option_map}
+use Rattle.std.proofs.Common.{◌≡◌, ℕ, Bool, true, false, List, [], ◌∷◌, Option, Some, None, refl, codes, sym, ap, ◌∙◌, ◌||◌, ◌&&◌, is_some, ap₂, if◌then◌else◌, option_and_then, option_map}
 use Rattle.std.specs.Str.{bytes_eq}
 use Rattle.std.proofs.lemmas.Bool.{true≢false}
 use Rattle.std.specs.Option.{option_map_or}
@@ -8,14 +8,13 @@ use Rattle.clap.specs.Lexer.{strip_byte, long_of, long_of_rest, short_of, short_
 use Rattle.clap.specs.Walk.{Held, Walk, Step, walk, walked, walk_from, word_met, idle, value, trailing, nothing_held, finished, to_positional, arg_by_index, after_step, long_or_other, short_or_plain}
 use Rattle.clap.specs.Takes.{word_passes, step_passes, turn_passes, flag_word_passes, bundle_passes, walk_passes, entered_passes, settle_passes, default_passes, is_valid}
 use Rattle.clap.specs.Simple.{Shape, built, entered}
-use Rattle.clap.specs.declared.parser.matches.ValueSource.TheVariants.{CommandLine}
-use Rattle.clap.specs.Words.{App, Row, Rule, Text, first_of, matches_of, new_app, new_rule, takes, with_rule, is_simple}
+use Rattle.clap.specs.Words.{Row, Rule, Text, first_of, matches_of, takes, is_simple}
 use Rattle.clap.proofs.OnLiterals.{clap_on_literals}
 use Rattle.clap.specs.Words.{HasMatchesOf, first_value, found_of}
 use Rattle.clap.specs.declared.parser.matches.ArgMatches.{ArgMatches}
 use Rattle.clap.proofs.WalkLemmas.{first_value-rows}
 use Rattle.brpc_top.specs.Words.{is_dashed, pair_of}
-use Rattle.brpc_top.specs.Program.{program, command, count}
+use Rattle.brpc_top.specs.Program.{program}
 
 pub simple : is_simple program ≡ true
 unfolding clap_on_literals

@@ -1,5 +1,5 @@
 -- The words of the command line and the command that they name. This project's own choice.
-use Rattle.std.specs.Prelude.{ℕ, Bool, true, false, ◌==◌, ◌&&◌, ◌||◌, nat_le, List, [], ◌∷◌, Option, None, Some, codes, bytes_eq, if◌then◌else◌}
+use Rattle.std.specs.Prelude.{ℕ, Bool, false, ◌==◌, ◌&&◌, ◌||◌, nat_le, List, [], ◌∷◌, Option, None, Some, codes, bytes_eq, if◌then◌else◌}
 use Rattle.rpc_model.specs.declared.limits.TheConstants.{SIM_CALL_LIMIT}
 use Rattle.rpc_model.specs.Words.{is_numeral, digits_after}
 use Rattle.brpc_top.specs.declared.command.Command.{Command}

@@ -1,5 +1,5 @@
 -- What was read stands in order, and is at most one byte longer than a script may be.
-use Rattle.std.proofs.Common.{vec_len, ◌≡◌, ◌-◌, ◌≤◌, ◌+◌}
+use Rattle.std.proofs.Common.{vec_len, ◌≡◌, ◌-◌, ◌≤◌}
 use Rattle.std.specs.Io.KnownBytes.{Consumes}
 use Rattle.brpc_top.proofs.input.read_script_bytes.Given as goal
 

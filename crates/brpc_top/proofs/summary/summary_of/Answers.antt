@@ -1,7 +1,7 @@
 -- One label and one number after the other.
-use Rattle.std.proofs.Common.{◌≡◌, ◌∙◌, ◌++◌, List, [], ℕ, ap, codes, string_bytes, count_by, sum_by}
+use Rattle.std.proofs.Common.{◌≡◌, ◌∙◌, ◌++◌, List, [], ℕ, ap, codes, string_bytes}
 use Rattle.std.specs.Fmt.{decimal}
-use Rattle.brpc_top.specs.Summary.{summary, is_good, is_bad, is_unended, is_full, attempts_of}
+use Rattle.brpc_top.specs.Summary.{summary}
 use Rattle.brpc_top.proofs.summary.summary_of.Goals as goal
 
 -- a label and a number behind a text

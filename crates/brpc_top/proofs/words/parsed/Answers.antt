@@ -1,5 +1,5 @@
 -- The command that is built is the one of the definition.
-use Rattle.std.proofs.Common.{rules, ap, ap₂, refl, codes, true, subst, sym, map, string_bytes, ◌≡◌, ◌∙◌, IfOk, IfErr}
+use Rattle.std.proofs.Common.{rules, ap, ap₂, true, subst, map, string_bytes, ◌≡◌, ◌∙◌, IfOk, IfErr}
 use Rattle.clap.specs.Words.{App, HasMatchesOf, app_of, kind_of, rule_of, takes, with_rule}
 use Rattle.clap.specs.Simple.{app_of_fields}
 use Rattle.clap.specs.declared.error.kind.ErrorKind.TheVariants.{OutOfMemory}

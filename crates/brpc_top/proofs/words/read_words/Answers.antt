@@ -1,8 +1,8 @@
 -- What the getters give is judged by the table.
-use Rattle.std.proofs.Common.{rules, ap, refl, sym, codes, None, Some, option_map, map, string_bytes, ◌≡◌, ◌∙◌, List, ℕ, Option, is_some, true, false}
+use Rattle.std.proofs.Common.{rules, ap, refl, sym, codes, None, Some, option_map, map, string_bytes, ◌≡◌, ◌∙◌, List, ℕ, Option, is_some, true}
 use Rattle.std.proofs.lemmas.Bool.{true≢false}
-use Rattle.brpc_top.proofs.Taken.{got-is, pair_in}
-use Rattle.brpc_top.proofs.Named.{named, unformed}
+use Rattle.brpc_top.proofs.Taken.{got-is}
+use Rattle.brpc_top.proofs.Named.{named}
 use Rattle.brpc_top.specs.Words.{pair_of}
 use Rattle.clap.specs.Words.{first_value, found_of}
 use Rattle.brpc_top.proofs.words.read_words.Goals as goal
