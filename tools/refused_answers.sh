@@ -33,5 +33,5 @@ while [ "$none" -lt 12 ] && [ "$bad" -lt 5 ]; do
     esac
     number=$((number + 1))
 done
-echo "refused allocations: $answers in answers and $loops in serving loops stood as said, $own were the trial's own, $bad were bad"
+echo "refused allocations: $answers in answers and $loops in serving loops stood as said, $own were of the program's own, $bad were bad"
 [ "$bad" = 0 ] && [ "$answers" -gt 0 ] && [ "$loops" -gt 0 ]
