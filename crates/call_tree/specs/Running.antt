@@ -17,6 +17,12 @@ pub record Running (M G : Type 0) : Type 0 where
   pub state : State M G
   pub log : List Entry
 
+-- the plan and number of a call, and the state that it is in
+pub record Bare (M G : Type 0) : Type 0 where
+  pub plan : Plan M G
+  pub call : ℕ
+  pub state : State M G
+
 -- the kinds of mapper and merger whose answers these functions are
 abbrev pub kinds_of : {M G : Type 0} → (M → ℕ → ℕ → List ℕ → Mapped) → (G → Option (List ℕ) → ℕ → List ℕ → Merged) → Kinds M G
 kinds_of mapped merged = record { map = mapped; merge = merged }
@@ -25,6 +31,10 @@ abbrev pub entry_of : Event → ℕ → Origin → Entry
 entry_of event moment from = record { event = event; moment = moment; from = from }
 
 module _ {M G : Type 0} where
+  -- a call without a log that has begun by this run
+  abbrev pub bare_by : Plan M G → ℕ → Run M G → Bare M G
+  bare_by plan call run = record { plan = plan; call = call; state = run.state }
+
   -- a call that has begun by this run
   abbrev pub begun_by : Plan M G → ℕ → Run M G → Running M G
   begun_by plan call run = record { plan = plan; call = call; state = run.state; log = [] }

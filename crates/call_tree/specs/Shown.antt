@@ -1,5 +1,6 @@
 -- The state that the code's nodes stand for, and what they keep beside it.
 use Rattle.std.specs.Prelude.{◌≡◌, List, [], ◌∷◌, Option, None, Some}
+use Rattle.std.specs.Arc.{arc_value}
 use Rattle.rpc_model.specs.declared.event.End.{End}
 use Rattle.rpc_model.specs.Leaf.{Leaf}
 use Rattle.call_leaf.specs.Keeps.{Kept}
@@ -24,7 +25,7 @@ IsOpenLeaf (Some end) outcome = Unit {0}
 
 -- the leaf may retry as often as its channel says, and has no outcome while it has no end
 pub record IsLeafNode (l : LeafNode) : Type 0 where
-  pub retry : l.leaf.retry ≡ l.chan.retry
+  pub retry : l.leaf.retry ≡ (arc_value l.chan).retry
   pub open_ : IsOpenLeaf l.end l.leaf.outcome
 
 module _ {M G : Type 0} where
@@ -34,7 +35,7 @@ module _ {M G : Type 0} where
 
   abbrev pub state_of : Node M G → spec.State M G
   state_of (node.Waits plan) = spec.waits plan
-  state_of (node.Leaf l) = spec.leaf_state l.chan l.request (leaf_with l.leaf l.end)
+  state_of (node.Leaf l) = spec.leaf_state (arc_value l.chan) l.request (leaf_with l.leaf l.end)
   state_of (node.Par p) = spec.par_state (record { limits = limits_of p.counts; merges = p.merges; end = p.end }) (states_of p.kids.items)
   state_of (node.Sel p) = spec.sel_state (record { request = p.request; end = p.end }) (states_of p.kids.items)
 

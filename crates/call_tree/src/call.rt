@@ -1,16 +1,15 @@
-ghost use Rattle.std.specs.Prelude.{◌≡◌, ℕ, ◌^◌, ◌<◌, is_some, IfOk, OnOk, OnErr};
+ghost use Rattle.std.specs.Prelude.{◌≡◌, ℕ, ◌^◌, ◌<◌, IfOk, OnOk, OnErr};
 ghost use Rattle.std.specs.Option.{option_map};
 ghost use Rattle.std.specs.Arc.{arc_value};
 ghost use Rattle.rpc_model.specs.State.{end_of, attempts};
 ghost use Rattle.rpc_model.specs.Machine.{start, step};
 ghost use Rattle.call_tree.specs.Running.{kinds_of, entry_of, begun_by, stepped_by, IsEffects};
 
+use crate::bare_call::BareCall;
 use crate::effects::Effects;
-use crate::nodes::Tree;
-use crate::outbox::Outbox;
-use crate::starting::start;
+use crate::happening::event_copy;
 use chan_tree::Plan;
-use rpc_base::{Bytes, List, NoMemory};
+use rpc_base::{Bytes, NoMemory};
 use rpc_model::{End, Entry, Event, Mapper, Merger, Origin};
 use std::alloc::Global;
 use std::marker::Model;
@@ -21,14 +20,11 @@ use std::sync::Arc;
 /// Its state is the one that the plain machine has after the call's start and the events of its log, each at its moment.
 #[derive(Drop)]
 pub struct Call<M, G> {
-    plan: Arc<Plan<M, G>>,
-    call: u32,
-    tree: Tree<M, G>,
+    bare: BareCall<M, G>,
     log: Vec<Entry>,
 }
 
 impl<M, G> Model for Call<M, G> {
-    ghost use Rattle.std.specs.Arc.{arc_value};
     ghost use Rattle.call_tree.specs.Running.{Running};
 
     ghost Value = { Running M G };
@@ -39,11 +35,7 @@ impl<M, G> Model for Call<M, G> {
 
     ghost coded = { Prim.hlevel (codes, plan_code {M = M} {G = G} (Prim.hlevel (codes)), state_code {M = M} {G = G} (Prim.hlevel (codes, plan_code {M = M} {G = G} (Prim.hlevel (codes))))) };
 
-    ghost view = { λ c. record { plan = arc_value c.plan; call = c.call; state = c.tree; log = c.log.items } };
-
-    ghost use Rattle.call_tree.specs.Bounds.{IsWithin};
-
-    ghost invariant = { λ c. IsWithin (arc_value c.plan) c.tree };
+    ghost view = { λ c. record { plan = c.bare.plan; call = c.bare.call; state = c.bare.state; log = c.log.items } };
 }
 
 impl<M: Mapper + Copy, G: Merger + Copy> Call<M, G> {
@@ -62,13 +54,9 @@ impl<M: Mapper + Copy, G: Merger + Copy> Call<M, G> {
         requires early { moment < 2 ^ 60 }
         ensures begun { IfOk result (λ r. let run = start (kinds_of M.answer G.answer) (arc_value plan) call request moment in (r.0 ≡ begun_by (arc_value plan) call run) × IsEffects run r.1) }
     {
-        let mut out = Outbox::new(alloc);
-        let tree = start(alloc, plan.tree(), request, 0, call, moment, &mut out)?;
-        let effects = effects_of(out, &tree);
+        let (bare, effects) = BareCall::begin(alloc, plan, call, request, moment)?;
         let begun = Call {
-            plan,
-            call,
-            tree,
+            bare,
             log: Vec::new(alloc),
         };
         Ok((begun, effects))
@@ -90,35 +78,15 @@ impl<M: Mapper + Copy, G: Merger + Copy> Call<M, G> {
         ensures effects { IfOk result (λ effects. IsEffects (step (kinds_of M.answer G.answer) self.old.call self.old.state event moment) effects) }
         ensures kept { OnErr result (self.new ≡ self.old) }
     {
-        let mut out = Outbox::new(alloc);
         self.log.reserve(1)?;
-        self.tree.step(
-            alloc,
-            self.plan.nodes(),
-            self.call,
-            &event,
-            moment,
-            &mut out,
-        )?;
+        let again = event_copy(alloc, &event)?;
+        let effects = self.bare.apply(alloc, again, moment)?;
         self.log.push_reserved(Entry {
             event,
             moment,
             from,
         });
-        Ok(effects_of(out, &self.tree))
-    }
-}
-
-/// What went out, where this is the call's root now.
-fn effects_of<M, G>(out: Outbox, root: &Tree<M, G>) -> Effects
-    ensures sends { result.sends ≡ out.sends.items }
-    ensures marks { result.marks ≡ out.marks.items }
-    ensures ended { result.ended ≡ is_some (end_of root.now) }
-{
-    Effects {
-        sends: List::of(out.sends),
-        marks: List::of(out.marks),
-        ended: root.end().is_some(),
+        Ok(effects)
     }
 }
 
@@ -127,21 +95,21 @@ impl<M, G> Call<M, G> {
     pub fn plan(&self) -> &Plan<M, G>
         ensures { result.now ≡ self.now.plan }
     {
-        &*self.plan
+        self.bare.plan()
     }
 
     /// The call's number.
     pub fn number(&self) -> u32
         ensures { result ≡ self.now.call }
     {
-        self.call
+        self.bare.number()
     }
 
     /// How many attempts its leaves have issued.
     pub fn attempts(&self) -> u32
         ensures { result ≡ attempts self.now.state }
     {
-        self.tree.attempts()
+        self.bare.attempts()
     }
 
     /// The events that were applied to it, in their order.
@@ -155,7 +123,7 @@ impl<M, G> Call<M, G> {
     pub fn end(&self) -> Option<&End>
         ensures { option_map (λ e. e.now) result ≡ end_of self.now.state }
     {
-        self.tree.end()
+        self.bare.end()
     }
 }
 
@@ -164,6 +132,6 @@ impl<M: Drop, G: Drop> Call<M, G> {
     pub fn into_end(self) -> Option<End>
         ensures { result ≡ end_of self.state }
     {
-        self.tree.into_end()
+        self.bare.into_end()
     }
 }

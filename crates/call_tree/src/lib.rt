@@ -2,6 +2,7 @@
 #![tactic(auto)]
 
 mod asking;
+mod bare_call;
 mod below;
 mod call;
 mod counts;
@@ -20,6 +21,7 @@ mod starting;
 mod stepping;
 mod taking;
 
+pub use bare_call::BareCall;
 pub use call::Call;
 pub use effects::Effects;
 pub use laws::calls_are_the_machines_of_their_logs;

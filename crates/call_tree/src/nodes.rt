@@ -11,6 +11,7 @@ use chan_tree::PlanTree;
 use rpc_base::{Bytes, List};
 use rpc_model::{End, LeafChan};
 use std::marker::Model;
+use std::sync::Arc;
 
 /// A node of a call, with what is below it. It is seen as the state that the plain machine has there.
 #[cycle(tree)]
@@ -32,7 +33,7 @@ pub(crate) enum Node<M, G> {
 /// A plain channel's node. The text of the reply that won stands in its end.
 #[derive(Drop)]
 pub(crate) struct LeafNode {
-    pub(crate) chan: LeafChan,
+    pub(crate) chan: Arc<LeafChan>,
     pub(crate) request: Bytes,
     pub(crate) leaf: Leaf,
     pub(crate) end: Option<End>,

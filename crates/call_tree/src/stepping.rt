@@ -17,34 +17,38 @@ use rpc_model::{Event, Mapper, Merger};
 use std::alloc::Global;
 
 impl<M: Mapper + Copy, G: Merger + Copy> Tree<M, G> {
-    /// An event comes to the call whose root this is, and which has so many nodes.
+    /// An event comes to the call whose root this is, and which has so many nodes. Where the root is a leaf, a text that it
+    /// wins with is the event's own.
     #[tactic(auto, using(crate::proofs::Outside::step_is))]
     pub(crate) fn step(
         &mut self,
         alloc: Global,
         nodes: u32,
         call: u32,
-        event: &Event,
+        event: Event,
         moment: u64,
         out: &mut Outbox,
     ) -> Result<(), NoMemory>
         requires nodes { nodes ≡ size self.old }
         requires few { nodes < 2 ^ 31 }
         requires early { moment < 2 ^ 60 }
-        ensures after { OnOk result (self.new ≡ (spec.step (kinds_of M.answer G.answer) call self.old event.now moment).state) }
-        ensures grown { OnOk result (let run = spec.step (kinds_of M.answer G.answer) call self.old event.now moment in IsGrown out.old out.new run.sends run.marks) }
+        ensures after { OnOk result (self.new ≡ (spec.step (kinds_of M.answer G.answer) call self.old event moment).state) }
+        ensures grown { OnOk result (let run = spec.step (kinds_of M.answer G.answer) call self.old event moment in IsGrown out.old out.new run.sends run.marks) }
         ensures kept { OnErr result (self.new ≡ self.old) }
     {
         if let Event::Cancel = event {
             self.cancel();
             return Ok(());
         }
-        if node_of(event) >= nodes {
+        if node_of(&event) >= nodes {
             return Ok(());
         }
+        if let Node::Leaf(leaf) = &mut self.node {
+            return leaf.happen(alloc, 0, call, event, out);
+        }
         let mut belows = Vec::new(alloc);
-        let end = self.decide(alloc, 0, call, event, moment, &mut belows, out)?;
-        self.take(0, event, end, &mut belows);
+        let end = self.decide(alloc, 0, call, &event, moment, &mut belows, out)?;
+        self.take(0, &event, end, &mut belows);
         Ok(())
     }
 }

@@ -1,5 +1,6 @@
 -- The plan that the code's nodes stand for.
 use Rattle.std.specs.Prelude.{◌≡◌, ℕ, List, [], ◌∷◌, Option, Some}
+use Rattle.std.specs.Arc.{arc_value}
 use Rattle.rpc_model.specs.declared.chan.Chan.{Chan}
 use Rattle.rpc_model.specs.Plan as spec
 use Rattle.chan_tree.specs.declared.tree.PlanNode.{PlanNode}
@@ -15,7 +16,7 @@ module _ {M G : Type 0} where
   rule_of r = record { maps = r.maps; merges = r.merges; fail = r.fail; ok = r.ok; timeout = r.timeout }
 
   abbrev pub plan_of : PlanNode M G → spec.Plan M G
-  plan_of (node.Leaf leaf) = spec.leaf_plan leaf
+  plan_of (node.Leaf leaf) = spec.leaf_plan (arc_value leaf)
   plan_of (node.Par rule plans) = spec.par_plan (rule_of rule) (plans_of plans.items)
   plan_of (node.Sel timeout plans) = spec.sel_plan timeout (plans_of plans.items)
 

@@ -1,6 +1,7 @@
 //! Plans as trees, built from a list of channels.
 
 ghost use Rattle.std.specs.Prelude.{◌≡◌, ℕ, ◌+◌, ◌<◌, ◌≤◌, ◌++◌, List, length, map, Some, IfOk, OnOk};
+ghost use Rattle.std.specs.Arc.{arc_value};
 ghost use Rattle.rpc_model.specs.Plan as spec;
 ghost use Rattle.rpc_model.specs.Plan.{subs_of, tries, copies, servers_of};
 ghost use Rattle.chan_tree.specs.Sound.{AreBefore, IsSound, AreSound};
@@ -8,10 +9,11 @@ ghost use Rattle.chan_tree.specs.Measures.{numbers_of};
 ghost use Rattle.chan_tree.specs.Shown.{append_plans, rule_of as rule_shown, IsPlanOf, ArePlansOf};
 
 use crate::measuring::try_at;
-use crate::tree::{PlanNode, PlanTree, Rule, leaf_copy};
+use crate::tree::{PlanNode, PlanTree, Rule};
 use rpc_base::{List, NoMemory};
 use rpc_model::{Chan, LeafChan, ParChan, PartChan, SelChan, Sub, Tag};
 use std::alloc::Global;
+use std::sync::Arc;
 
 /// The plan of the channel of this number, as a tree.
 #[cycle(build)]
@@ -27,7 +29,7 @@ pub fn build<M: Copy, G: Copy>(
 {
     match &chans[number as usize] {
         Chan::Leaf(leaf) => {
-            let leaf = leaf_copy(alloc, leaf)?;
+            let leaf = shared_leaf(alloc, leaf)?;
             Ok(PlanTree {
                 node: PlanNode::Leaf(leaf),
             })
@@ -105,6 +107,19 @@ fn build_tries<M: Copy, G: Copy>(
     Ok(kids)
 }
 
+/// A copy of a plain channel, which the copies of a plan share.
+fn shared_leaf(alloc: Global, leaf: &LeafChan) -> Result<Arc<LeafChan>, NoMemory>
+    ensures { IfOk result (λ copy. arc_value copy ≡ leaf.now) }
+{
+    let copy = LeafChan {
+        servers: List::of(Vec::from_slice(alloc, leaf.servers.list())?),
+        retry: leaf.retry,
+        backup: leaf.backup,
+        timeout: leaf.timeout,
+    };
+    Ok(Arc::new(alloc, copy)?)
+}
+
 fn rule_of<M: Copy, G: Copy>(alloc: Global, par: &ParChan<M, G>) -> Result<Rule<M, G>, NoMemory>
     ensures { IfOk result (λ rule. rule_shown rule ≡ spec.rule_of par.now) }
 {
@@ -160,7 +175,7 @@ fn build_parts<M: Copy, G: Copy>(
     let parts = part.parts;
     let mut at = 0u32;
     while at < parts {
-        let leaf = part_leaf(alloc, part, at)?;
+        let leaf = Arc::new(alloc, part_leaf(alloc, part, at)?)?;
         kids.push(PlanTree {
             node: PlanNode::Leaf(leaf),
         })?;

@@ -18,7 +18,7 @@ pub use planning::{PlanFault, known_plan, plan};
 pub use plans::Plan;
 pub use rpc_model::{Chan, ParChan, PartChan, SelChan, Sub, Tag};
 pub use sound::are_sound;
-pub use tree::{PlanNode, PlanTree, Rule, leaf_copy};
+pub use tree::{PlanNode, PlanTree, Rule};
 pub use walking::{Size, retry_at, size_of};
 
 #[cfg(test)]

@@ -6,6 +6,7 @@ use rpc_base::{List, NoMemory};
 use rpc_model::LeafChan;
 use std::alloc::Global;
 use std::marker::Model;
+use std::sync::Arc;
 
 /// The tree of a plan's nodes. It is seen as the plan itself.
 #[cycle(plan)]
@@ -18,8 +19,8 @@ pub struct PlanTree<M, G> {
 #[cycle(plan)]
 #[derive(Drop)]
 pub enum PlanNode<M, G> {
-    /// A plain channel.
-    Leaf(LeafChan),
+    /// A plain channel. Copies of a plan and the calls that run it share it.
+    Leaf(Arc<LeafChan>),
     /// A parallel node over its subs.
     Par(Rule<M, G>, Vec<PlanTree<M, G>>),
     /// A selective node, with the milliseconds to its deadline, over its tries.
@@ -106,7 +107,7 @@ impl<M: Copy, G: Copy> PlanTree<M, G> {
     {
         match &self.node {
             PlanNode::Leaf(leaf) => {
-                let leaf = leaf_copy(alloc, leaf)?;
+                let leaf = leaf.clone()?;
                 Ok(PlanTree {
                     node: PlanNode::Leaf(leaf),
                 })
@@ -141,20 +142,6 @@ fn copies<M: Copy, G: Copy>(
         copies.push(tree.copy(alloc)?)?;
     }
     Ok(copies)
-}
-
-/// A copy of a plain channel.
-pub fn leaf_copy(alloc: Global, leaf: &LeafChan) -> Result<LeafChan, NoMemory>
-    ensures { IfOk result (λ copy. copy ≡ leaf.now) }
-{
-    let mut servers = Vec::new(alloc);
-    servers.extend_from_slice(leaf.servers.list())?;
-    Ok(LeafChan {
-        servers: List::of(servers),
-        retry: leaf.retry,
-        backup: leaf.backup,
-        timeout: leaf.timeout,
-    })
 }
 
 fn rule_copy<M: Copy, G: Copy>(alloc: Global, rule: &Rule<M, G>) -> Result<Rule<M, G>, NoMemory>

@@ -7,7 +7,7 @@ use Rattle.rpc_model.specs.Machine.{start}
 use Rattle.call_tree.specs.Bounds.{IsWithin}
 use Rattle.call_tree.specs.Running.{kinds_of}
 use Rattle.call_tree.proofs.Bounds.{few_nodes, begun_within}
-use Rattle.call_tree.proofs.call.Call.begin.Goals as goal
+use Rattle.call_tree.proofs.bare_call.BareCall.begin.Goals as goal
 
 pub start-requires-clause-few : goal.start-requires-clause-few
 start-requires-clause-few g c =

@@ -5,7 +5,7 @@ use Rattle.rpc_model.specs.Versions.{nodes}
 use Rattle.call_tree.specs.Bounds.{IsWithin}
 use Rattle.call_tree.specs.Running.{kinds_of}
 use Rattle.call_tree.proofs.Bounds.{few_nodes, step_within}
-use Rattle.call_tree.proofs.call.Call.apply.Goals as goal
+use Rattle.call_tree.proofs.bare_call.BareCall.apply.Goals as goal
 
 pub step-requires-clause-few : goal.step-requires-clause-few
 step-requires-clause-few g c =

@@ -1,7 +1,7 @@
 use Rattle.std.proofs.Common.{arith}
 use Rattle.std.specs.Arc.{arc_value}
 use Rattle.call_tree.proofs.Bounds.{few_nodes}
-use Rattle.call_tree.proofs.call.Call.attempts.Goals as goal
+use Rattle.call_tree.proofs.bare_call.BareCall.attempts.Goals as goal
 
 pub attempts-requires : goal.attempts-requires
 attempts-requires g c =
