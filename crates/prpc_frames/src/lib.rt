@@ -17,7 +17,7 @@ pub use fault::FeedFault;
 pub use frame::Frame;
 pub use frames::Frames;
 pub use law::{any_pieces, begins_with_spelled};
-pub use writing::{frame_fits, write_frame};
+pub use writing::{frame_fits, write_frame, write_parts};
 
 #[cfg(test)]
 mod tests;

@@ -1,7 +1,7 @@
 ghost use Rattle.std.specs.Prelude.{◌≡◌, ◌++◌, ◌↔◌, ◌≤◌, ◌-◌, ◌^◌, min, length, pos, IfOk, IfSome, OnOk, OnErr, IsTrue};
 ghost use Rattle.rpc_meta.specs.Meta.{meta_bytes};
 ghost use Rattle.rpc_meta.specs.Appending.{Begins};
-ghost use Rattle.prpc_frames.specs.Stream.Spelling.{number_bytes, header_bytes, body_bytes, frame_bytes, IsTold, IsFitting};
+ghost use Rattle.prpc_frames.specs.Stream.Spelling.{number_bytes, header_bytes, body_bytes, frame_bytes, frame_of, IsTold, IsFitting};
 
 use crate::frame::Frame;
 use crate::header::{HEADER, MAGIC, MOST};
@@ -32,12 +32,12 @@ fn is_plain(meta: &Meta) -> bool
 
 /// How many bytes the body has, or 2^64 - 1 where they are more.
 #[tactic(auto, unfolding(crate::specs::Stream::Spelling::body_bytes))]
-fn body_len(frame: &Frame) -> u64
-    ensures { result ≡ min (length (body_bytes frame.now)) (2 ^ 64 - 1) }
+fn body_len(meta: &Meta, payload: &[u8], attachment: &[u8]) -> u64
+    ensures { result ≡ min (length (body_bytes (frame_of meta.now payload.now attachment.now))) (2 ^ 64 - 1) }
 {
-    spelled_len(&frame.meta)
-        .saturating_add(frame.payload.list().len() as u64)
-        .saturating_add(frame.attachment.list().len() as u64)
+    spelled_len(meta)
+        .saturating_add(payload.len() as u64)
+        .saturating_add(attachment.len() as u64)
 }
 
 /// Whether `write_frame` may be called: the body has at most 16,777,216 bytes, the meta tells the size of the attachment
@@ -45,28 +45,29 @@ fn body_len(frame: &Frame) -> u64
 pub fn frame_fits(frame: &Frame) -> bool
     ensures { IsTrue result ↔ IsFitting frame.now }
 {
-    body_len(frame) <= MOST as u64
-        && tells_attachment(&frame.meta, frame.attachment.list().len())
+    let attachment = frame.attachment.list();
+    body_len(&frame.meta, frame.payload.list(), attachment) <= MOST as u64
+        && tells_attachment(&frame.meta, attachment.len())
         && is_plain(&frame.meta)
         && is_writable(&frame.meta)
 }
 
 /// How many bytes the meta has, where the frame fits.
 #[tactic(auto, unfolding(crate::specs::Stream::Spelling::body_bytes))]
-fn meta_len(frame: &Frame) -> u32
-    requires { IsFitting frame.now }
-    ensures { result ≡ length (meta_bytes frame.now.meta) }
+fn meta_len(meta: &Meta, payload: &[u8], attachment: &[u8]) -> u32
+    requires { IsFitting (frame_of meta.now payload.now attachment.now) }
+    ensures { result ≡ length (meta_bytes meta.now) }
 {
-    spelled_len(&frame.meta) as u32
+    spelled_len(meta) as u32
 }
 
 /// How many bytes the body has, where the frame fits.
-fn fitting_len(frame: &Frame) -> u32
-    requires { IsFitting frame.now }
-    ensures is { result ≡ length (body_bytes frame.now) }
+fn fitting_len(meta: &Meta, payload: &[u8], attachment: &[u8]) -> u32
+    requires { IsFitting (frame_of meta.now payload.now attachment.now) }
+    ensures is { result ≡ length (body_bytes (frame_of meta.now payload.now attachment.now)) }
     ensures most { result ≤ 16777216 }
 {
-    body_len(frame) as u32
+    body_len(meta, payload, attachment) as u32
 }
 
 /// Appends a number of 32 bits in network order.
@@ -94,28 +95,38 @@ fn put_header(to: &mut Vec<u8>, body: u32, meta: u32) -> Result<(), NoMemory>
 
 /// The meta, the payload and the attachment.
 #[tactic(auto, using(crate::proofs::Begun::begun_past), unfolding(crate::specs::Stream::Spelling::body_bytes))]
-fn put_body(to: &mut Vec<u8>, frame: &Frame) -> Result<(), NoMemory>
-    requires { IsFitting frame.now }
-    ensures written { OnOk result (to.new.items ≡ to.old.items ++ body_bytes frame.now) }
+fn put_body(
+    to: &mut Vec<u8>,
+    meta: &Meta,
+    payload: &[u8],
+    attachment: &[u8],
+) -> Result<(), NoMemory>
+    requires { IsFitting (frame_of meta.now payload.now attachment.now) }
+    ensures written { OnOk result (to.new.items ≡ to.old.items ++ body_bytes (frame_of meta.now payload.now attachment.now)) }
     ensures begun { OnErr result (Begins to.old.items to.new.items) }
 {
-    write_meta(&frame.meta, to)?;
-    to.extend_from_slice(frame.payload.list())?;
-    to.extend_from_slice(frame.attachment.list())?;
+    write_meta(meta, to)?;
+    to.extend_from_slice(payload)?;
+    to.extend_from_slice(attachment)?;
     Ok(())
 }
 
 /// The header and the body.
 #[tactic(auto, using(crate::proofs::Begun::begun_past), unfolding(crate::specs::Stream::Spelling::frame_bytes))]
-fn put_frame(to: &mut Vec<u8>, frame: &Frame) -> Result<(), NoMemory>
-    requires { IsFitting frame.now }
-    ensures written { OnOk result (to.new.items ≡ to.old.items ++ frame_bytes frame.now) }
+fn put_frame(
+    to: &mut Vec<u8>,
+    meta: &Meta,
+    payload: &[u8],
+    attachment: &[u8],
+) -> Result<(), NoMemory>
+    requires { IsFitting (frame_of meta.now payload.now attachment.now) }
+    ensures written { OnOk result (to.new.items ≡ to.old.items ++ frame_bytes (frame_of meta.now payload.now attachment.now)) }
     ensures begun { OnErr result (Begins to.old.items to.new.items) }
 {
-    let body = fitting_len(frame);
+    let body = fitting_len(meta, payload, attachment);
     to.reserve(HEADER + body as usize)?;
-    put_header(to, body, meta_len(frame))?;
-    put_body(to, frame)?;
+    put_header(to, body, meta_len(meta, payload, attachment))?;
+    put_body(to, meta, payload, attachment)?;
     Ok(())
 }
 
@@ -127,8 +138,28 @@ pub fn write_frame(frame: &Frame, to: &mut Vec<u8>) -> Result<(), NoMemory>
     ensures written { OnOk result (to.new.items ≡ to.old.items ++ frame_bytes frame.now) }
     ensures kept { OnErr result (to.new.items ≡ to.old.items) }
 {
+    write_parts(
+        &frame.meta,
+        frame.payload.list(),
+        frame.attachment.list(),
+        to,
+    )
+}
+
+/// Appends the one spelling of the frame of a meta, a payload and an attachment, which need not be copied into a frame
+/// first. All else is as with `write_frame`.
+pub fn write_parts(
+    meta: &Meta,
+    payload: &[u8],
+    attachment: &[u8],
+    to: &mut Vec<u8>,
+) -> Result<(), NoMemory>
+    requires { IsFitting (frame_of meta.now payload.now attachment.now) }
+    ensures written { OnOk result (to.new.items ≡ to.old.items ++ frame_bytes (frame_of meta.now payload.now attachment.now)) }
+    ensures kept { OnErr result (to.new.items ≡ to.old.items) }
+{
     let before = to.len();
-    match put_frame(to, frame) {
+    match put_frame(to, meta, payload, attachment) {
         Ok(()) => Ok(()),
         Err(NoMemory) => {
             to.truncate(before);

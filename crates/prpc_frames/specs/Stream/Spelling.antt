@@ -9,6 +9,10 @@ use Rattle.rpc_meta.specs.Meta.Spelling.{IsWritable}
 use Rattle.prpc_frames.specs.declared.frame.Frame.{Frame}
 use Rattle.prpc_frames.specs.Stream.Reading.{magic}
 
+-- the frame of a meta, a payload and an attachment
+abbrev pub frame_of : Meta → List ℕ → List ℕ → Frame
+frame_of meta payload attachment = record { meta = meta; payload = payload; attachment = attachment }
+
 -- a number of 32 bits in network order
 unfoldable pub number_bytes : ℕ → List ℕ
 number_bytes n = big_bytes 4 n
