@@ -98,7 +98,7 @@ fn start_par<M: Mapper + Copy, G: Merger + Copy>(
     ensures node { IfOk result (λ par. state_of (node_word.Par par) ≡ (spec.start_at (kinds_of M.answer G.answer) node (par_plan (rule_of rule.now) (plans_of plans.now)) call request moment).state) }
     ensures grown { OnOk result (let run = spec.start_at (kinds_of M.answer G.answer) node (par_plan (rule_of rule.now) (plans_of plans.now)) call request moment in IsGrown out.old out.new run.sends run.marks) }
 {
-    // A channel's plan has fewer mappers than nodes (`parallel_nodes_are_even` of rpc_model), and so never as many.
+    // A channel's plan has fewer mappers than nodes (`parallel_nodes_are_even` of model_laws), and so never as many.
     if rule.maps.list().len() >= 0x8000_0000 {
         return Err(NoMemory);
     }

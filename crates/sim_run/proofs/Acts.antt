@@ -8,8 +8,8 @@ use Rattle.rpc_model.specs.Kinds.{script_kinds}
 use Rattle.rpc_model.specs.Machine.{step}
 use Rattle.rpc_model.specs.State.{end_of}
 use Rattle.rpc_model.specs.Marks.{Begun, is_before, set_mark, set_all, take_mark, mark_event, least_mark, marks_left, weave_at_most, weave_least, finish_at_most, finish_least, finish}
-use Rattle.rpc_model.proofs.Weaves.{taken-left}
-use Rattle.rpc_model.proofs.Within.{AreWithin, step-within}
+use Rattle.model_laws.proofs.Weaves.{taken-left}
+use Rattle.model_laws.proofs.Within.{AreWithin, step-within}
 use Rattle.sim_run.proofs.Fit.{taken-fit}
 use Rattle.timer_core.specs.declared.mark.Mark.{Mark}
 use Rattle.timer_core.specs.Marks.{added, comes_after}

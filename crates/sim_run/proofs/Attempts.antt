@@ -9,7 +9,7 @@ use Rattle.rpc_model.specs.declared.meaning.Meaning.{Meaning}
 use Rattle.rpc_model.specs.declared.meaning.Meaning.TheVariants.{Node, Attempt}
 use Rattle.rpc_model.specs.Plan.{Plan, leaf_plan, par_plan, sel_plan, Plans, last_plan, plan_then}
 use Rattle.rpc_model.specs.Versions.{node_versions, leaf_versions, attempt_versions, attempt_versions_of, nodes, versions, offset_of, meaning_of, or_leaf, leaf_at, leaf_at_of}
-use Rattle.rpc_model.proofs.Runs.{inverse}
+use Rattle.model_laws.proofs.Runs.{inverse}
 
 abbrev HasLeaf : (ℕ → Option LeafChan) → Meaning → Type 0
 HasLeaf find (Node n) = Unit {0}

@@ -5,7 +5,7 @@ use Rattle.rpc_model.specs.Effects.{Mark as CallMark}
 use Rattle.rpc_model.specs.Kinds.{script_kinds}
 use Rattle.rpc_model.specs.Machine.{step}
 use Rattle.rpc_model.specs.Marks.{Begun, least_mark, mark_event, marks_left, unstarted}
-use Rattle.rpc_model.proofs.Few.{call-step-few}
+use Rattle.model_laws.proofs.Few.{call-step-few}
 use Rattle.id_pool.specs.Ranges.{Slot, Vacant, Retired, Taken, change}
 use Rattle.timer_core.specs.declared.mark.Mark.{Mark}
 use Rattle.timer_core.specs.Marks.{added, comes_after}

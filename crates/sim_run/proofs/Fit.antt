@@ -13,9 +13,9 @@ use Rattle.rpc_model.specs.Versions.{width}
 use Rattle.rpc_model.specs.State.{State, waits, leaf_state, par_state, sel_state, size, end_of}
 use Rattle.rpc_model.specs.Machine.{step, start, cancelled}
 use Rattle.rpc_model.specs.Marks.{Begun, begin, apply, is_before, set_mark, set_all, take_mark, mark_event, least_mark, marks_left, weave_at_most, weave_least, weave, finish_at_most, finish_least}
-use Rattle.rpc_model.proofs.Weaves.{taken-left}
-use Rattle.rpc_model.proofs.Sizes.{size-step, size-start}
-use Rattle.rpc_model.proofs.Within.{step-within, start-within}
+use Rattle.model_laws.proofs.Weaves.{taken-left}
+use Rattle.model_laws.proofs.Sizes.{size-step, size-start}
+use Rattle.model_laws.proofs.Within.{step-within, start-within}
 use Rattle.chan_tree.proofs.Offsets.{few_attempts}
 use Rattle.sim_run.specs.declared.turn.Turn.{Turn}
 use Rattle.sim_run.specs.declared.turn.Turn.TheVariants as turn

@@ -6,8 +6,8 @@ use Rattle.rpc_model.specs.declared.kinds.MapKind.{MapKind}
 use Rattle.rpc_model.specs.declared.kinds.MergeKind.{MergeKind}
 use Rattle.rpc_model.specs.Plan.{Plan}
 use Rattle.rpc_model.specs.Told.{Replay, is_begun, is_full, call_after, call_event, call_tells}
-use Rattle.rpc_model.specs.Early.{settled}
-use Rattle.rpc_model.proofs.Early.{event-line, call-line, count-settled}
+use Rattle.model_laws.specs.Early.{settled}
+use Rattle.model_laws.proofs.Early.{event-line, call-line, count-settled}
 
 -- What follows from a clause that holds where a call answers `Ok`.
 pub on_ok : {A E : Type 0} (P Q : Type 0) (r : Result A E) → (P → Q) → OnOk r P → OnOk r Q

@@ -13,16 +13,16 @@ use Rattle.rpc_model.specs.declared.meaning.Meaning.TheVariants.{Attempt}
 use Rattle.rpc_model.specs.Effects.{Send, server_of}
 use Rattle.rpc_model.specs.Kinds.{script_kinds}
 use Rattle.rpc_model.specs.Leaf.{Leaf}
-use Rattle.rpc_model.specs.Leaves.{EachLeaf, EachLeafOf}
+use Rattle.model_laws.specs.Leaves.{EachLeaf, EachLeafOf}
 use Rattle.rpc_model.specs.Machine.{machine}
 use Rattle.rpc_model.specs.Parallel.{mapped}
 use Rattle.rpc_model.specs.Plan.{Plan, leaf_plan, par_plan, sel_plan, Plans, last_plan, plan_then}
-use Rattle.rpc_model.specs.Requests.{IsOf, SubsAreOf, TriesAreOf}
-use Rattle.rpc_model.specs.Sends.{leaf_sends, sends_of, all_sends}
+use Rattle.model_laws.specs.Requests.{IsOf, SubsAreOf, TriesAreOf}
+use Rattle.model_laws.specs.Sends.{leaf_sends, sends_of, all_sends}
 use Rattle.rpc_model.specs.Served.{AreServed, AreAllServed}
 use Rattle.rpc_model.specs.State.{State, waits, leaf_state, par_state, sel_state, States, last_state, state_then, size, size_of}
 use Rattle.rpc_model.specs.Versions.{nodes, nodes_of, node_versions, leaf_versions, attempt_versions, attempt_versions_of, versions, offset_of, meaning_of}
-use Rattle.rpc_model.proofs.Runs.{inverse, leaves-few, nodes-of as run-nodes, sends-of as run-sends}
+use Rattle.model_laws.proofs.Runs.{inverse, leaves-few, nodes-of as run-nodes, sends-of as run-sends}
 use Rattle.sim_run.specs.Desk.{HasPlace}
 use Rattle.sim_run.proofs.Entries.{one, count-cons}
 use Rattle.sim_run.proofs.Leaves.{server-known}

@@ -18,7 +18,7 @@ use Rattle.rpc_model.specs.Marks.{Begun, begin}
 use Rattle.rpc_model.specs.declared.told.Told.TheVariants.{Full as TellsFull}
 use Rattle.rpc_model.specs.Told as spec
 use Rattle.rpc_model.specs.Told.{begun, full}
-use Rattle.rpc_model.proofs.Within.{start-within}
+use Rattle.model_laws.proofs.Within.{start-within}
 use Rattle.chan_tree.proofs.Offsets.{few_attempts}
 use Rattle.id_pool.specs.Ids.{make_id}
 use Rattle.id_pool.specs.Ranges.{Slot, Vacant, Taken, Range, is_width, lowest, created, created_at, change, fresh}

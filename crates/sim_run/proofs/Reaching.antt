@@ -6,8 +6,8 @@ use Rattle.rpc_model.specs.declared.script.Script.{Script}
 use Rattle.rpc_model.specs.Effects.{Mark as CallMark}
 use Rattle.rpc_model.specs.Marks.{Begun, weave, unstarted}
 use Rattle.rpc_model.specs.Told.{Standing, change_first, is_call}
-use Rattle.rpc_model.specs.Early.{settle, settled}
-use Rattle.rpc_model.proofs.Early.{settle-twice}
+use Rattle.model_laws.specs.Early.{settle, settled}
+use Rattle.model_laws.proofs.Early.{settle-twice}
 use Rattle.id_pool.specs.Ids.{make_id, slot_of, version_of}
 use Rattle.id_pool.proofs.Ids.{slot_of-make_id, version_of-make_id, make_id-plus}
 use Rattle.id_pool.specs.Ranges.{Slot, Taken, Range, Nothing, Unlocked, offset, look, slot_at, change, change_at, changed}

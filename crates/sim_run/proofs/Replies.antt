@@ -11,7 +11,7 @@ use Rattle.rpc_model.specs.declared.meaning.Meaning.{Meaning}
 use Rattle.rpc_model.specs.declared.meaning.Meaning.TheVariants.{Attempt}
 use Rattle.rpc_model.specs.Plan.{Plan}
 use Rattle.rpc_model.specs.Versions.{versions, offset_of, meaning_of, width}
-use Rattle.rpc_model.proofs.Runs.{inverse}
+use Rattle.model_laws.proofs.Runs.{inverse}
 use Rattle.rpc_model.specs.Marks.{Begun}
 use Rattle.rpc_model.specs.Told as spec
 use Rattle.id_pool.specs.Ids.{slot_of, version_of}

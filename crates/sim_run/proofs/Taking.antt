@@ -4,7 +4,7 @@ use Rattle.std.proofs.lemmas.Bool.Decides.{nat_tests}
 use Rattle.rpc_model.specs.Effects.{Mark}
 use Rattle.rpc_model.specs.State.{end_of}
 use Rattle.rpc_model.specs.Marks.{Begun, least_mark, mark_event, marks_left}
-use Rattle.rpc_model.proofs.Weaves.{taken-left}
+use Rattle.model_laws.proofs.Weaves.{taken-left}
 use Rattle.sim_run.specs.Acting.{Acting, acted, woven, finished_by}
 use Rattle.sim_run.specs.Calls.{due_least, due_taken, open_least, open_taken}
 use Rattle.sim_run.proofs.Acts.{woven-due, woven-late, finished-open, finished-over, finished-none, finished-reaches}

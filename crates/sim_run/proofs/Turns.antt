@@ -10,11 +10,11 @@ use Rattle.rpc_model.specs.declared.told.Told.{Told}
 use Rattle.std.specs.declared.option.Option.{Option}
 use Rattle.rpc_model.specs.Limits.{called}
 use Rattle.rpc_model.specs.Fits.{Fits}
-use Rattle.rpc_model.specs.Logs.{after_all}
+use Rattle.model_laws.specs.Logs.{after_all}
 use Rattle.rpc_model.specs.Told.{Replay, unbegun, after, tells, told_from}
-use Rattle.rpc_model.specs.Early.{settled}
-use Rattle.rpc_model.proofs.MomentsStay.{moments-early}
-use Rattle.rpc_model.proofs.Early.{tells-same, after-settled}
+use Rattle.model_laws.specs.Early.{settled}
+use Rattle.model_laws.proofs.MomentsStay.{moments-early}
+use Rattle.model_laws.proofs.Early.{tells-same, after-settled}
 use Rattle.sim_run.specs.declared.ticket.Ticket.{Ticket}
 use Rattle.sim_run.specs.Desk.{IsNew, IsFront}
 

@@ -7,7 +7,7 @@ ghost use Rattle.rpc_model.specs.Fits.{Fits, IsNarrow, BeginsNarrow};
 ghost use Rattle.rpc_model.specs.Plan.{plan};
 ghost use Rattle.rpc_model.specs.Told as spec;
 ghost use Rattle.rpc_model.specs.declared.event.Event.TheVariants as event;
-ghost use Rattle.rpc_model.specs.Early.{settled};
+ghost use Rattle.model_laws.specs.Early.{settled};
 ghost use Rattle.sim_run.specs.Desk.{IsReady, replay_of, ticket_of, IsNew, plan_of, first_wires, event_wires, reply_wires, loss_wires, join_wires};
 ghost use Rattle.sim_run.specs.Marked.{AreSettled, marked};
 ghost use Rattle.sim_run.specs.Sends.{posted};

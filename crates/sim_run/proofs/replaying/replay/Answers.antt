@@ -2,7 +2,7 @@
 use Rattle.std.proofs.Common.{◌+◌, ◌^◌, ◌<◌, [], ◌++◌, length, ap, refl, sym, subst, ◌∙◌, arith, length-append}
 use Rattle.std.specs.Map.{keys_of}
 use Rattle.rpc_model.specs.Told.{Replay, told, told_from, tells, after, unbegun}
-use Rattle.rpc_model.specs.Early.{settled}
+use Rattle.model_laws.specs.Early.{settled}
 use Rattle.sim_run.specs.Desk.{replay_of}
 use Rattle.sim_run.proofs.Turns.{alike-tells, alike-after, alike-reaches, turn-tells, turn-led, led-early, turn-new, turn-distinct, turn-few, front, on_err}
 use Rattle.sim_run.proofs.replaying.replay.Goals as goal

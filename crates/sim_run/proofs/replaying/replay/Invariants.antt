@@ -4,7 +4,7 @@ use Rattle.std.specs.List.{IsDistinct}
 use Rattle.std.specs.Map.{keys_of}
 use Rattle.rpc_model.specs.Limits.{called}
 use Rattle.rpc_model.specs.Told.{Replay, told, told_from}
-use Rattle.rpc_model.specs.Early.{settled}
+use Rattle.model_laws.specs.Early.{settled}
 use Rattle.sim_run.specs.Desk.{IsReady, replay_of}
 use Rattle.sim_run.specs.Rounds.{IsPlanned}
 use Rattle.sim_run.proofs.Turns.{HasLed}

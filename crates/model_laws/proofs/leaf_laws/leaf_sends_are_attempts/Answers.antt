@@ -1,0 +1,7 @@
+use Rattle.model_laws.proofs.LeafRuns.{machine-runs}
+use Rattle.model_laws.proofs.leaf_laws.leaf_sends_are_attempts.Goals as goal
+
+pub returns : goal.returns
+returns g c = λ kinds leaf call request begun events.
+    let runs = machine-runs kinds leaf call request begun events in
+    rw runs.is runs.sent

@@ -1,0 +1,14 @@
+pub mod Early
+pub mod Soon
+pub mod Moments
+pub mod Logs
+pub mod Earned
+pub mod Leaves
+pub mod Heard
+pub mod Late
+pub mod Sends
+pub mod Requests
+pub mod Paths
+pub mod Completions
+pub mod Laws
+pub mod LeafLaws

@@ -1,5 +1,0 @@
-use Rattle.rpc_model.proofs.Early.{settled-tells}
-use Rattle.rpc_model.proofs.laws.due_marks_may_be_taken_at_once.Goals as goal
-
-pub returns : goal.returns
-returns c = λ script acts replay. settled-tells script acts replay

@@ -1,5 +1,0 @@
-use Rattle.rpc_model.proofs.Earned.{good-ends}
-use Rattle.rpc_model.proofs.laws.good_ends_need_a_live_reply.Goals as goal
-
-pub returns : goal.returns
-returns g c = λ kinds. good-ends kinds

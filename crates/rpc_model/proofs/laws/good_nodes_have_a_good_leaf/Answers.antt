@@ -1,5 +1,0 @@
-use Rattle.rpc_model.proofs.GoodNodes.{good-nodes}
-use Rattle.rpc_model.proofs.laws.good_nodes_have_a_good_leaf.Goals as goal
-
-pub returns : goal.returns
-returns g c = λ kinds. good-nodes kinds

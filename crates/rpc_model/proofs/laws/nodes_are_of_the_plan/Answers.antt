@@ -1,5 +1,0 @@
-use Rattle.rpc_model.proofs.Runs.{nodes-of}
-use Rattle.rpc_model.proofs.laws.nodes_are_of_the_plan.Goals as goal
-
-pub returns : goal.returns
-returns g c = λ kinds. nodes-of kinds

@@ -1,5 +1,0 @@
-use Rattle.rpc_model.proofs.Even.{parallel-even}
-use Rattle.rpc_model.proofs.laws.parallel_nodes_are_even.Goals as goal
-
-pub returns : goal.returns
-returns g c = parallel-even _ _

@@ -1,5 +1,0 @@
-use Rattle.rpc_model.proofs.Runs.{sends-of}
-use Rattle.rpc_model.proofs.laws.sends_are_of_the_state.Goals as goal
-
-pub returns : goal.returns
-returns g c = λ kinds. sends-of kinds

@@ -1,5 +1,0 @@
-use Rattle.rpc_model.proofs.Logs.{ends-are-the-machines}
-use Rattle.rpc_model.proofs.laws.told_ends_are_the_machines.Goals as goal
-
-pub returns : goal.returns
-returns c = ends-are-the-machines

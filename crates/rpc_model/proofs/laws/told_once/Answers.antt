@@ -1,5 +1,0 @@
-use Rattle.rpc_model.proofs.Once.{told-once}
-use Rattle.rpc_model.proofs.laws.told_once.Goals as goal
-
-pub returns : goal.returns
-returns c = told-once

@@ -1,7 +1,0 @@
-use Rattle.rpc_model.proofs.LeafRuns.{machine-runs}
-use Rattle.rpc_model.proofs.leaf_laws.leaf_sends_are_attempts.Goals as goal
-
-pub returns : goal.returns
-returns g c = λ kinds leaf call request begun events.
-    let runs = machine-runs kinds leaf call request begun events in
-    rw runs.is runs.sent
