@@ -5,10 +5,10 @@ use Rattle.rpc_model.specs.declared.kinds.MergeKind.{MergeKind}
 use Rattle.rpc_model.specs.Effects.{Mark}
 use Rattle.rpc_model.specs.State.{end_of}
 use Rattle.rpc_model.specs.Marks.{Begun, least_mark}
-use Rattle.call_tree.specs.Running.{Running}
+use Rattle.call_tree.specs.Running.{Bare}
 
--- a running call, and its marks that wait
-abbrev pub begun_of : Running MapKind MergeKind → List Mark → Begun
+-- a call, and its marks that wait
+abbrev pub begun_of : Bare MapKind MergeKind → List Mark → Begun
 begun_of call waiting = record { call = call.call; plan = call.plan; state = call.state; waiting = waiting }
 
 -- the mark that comes first is taken out where it is due

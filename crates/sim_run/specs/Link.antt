@@ -2,6 +2,7 @@
 -- baidu_std document.
 use Rattle.std.specs.Prelude.{◌≡◌, ℕ, ◌^◌, ◌<◌, ℤ, pos, negsuc, List, [], Option, None, Some}
 use Rattle.rpc_model.specs.declared.sent.Sent.{Sent}
+use Rattle.rpc_meta.specs.declared.meta.Meta.{Meta}
 use Rattle.rpc_meta.specs.Meta.Answer.{reply_code_of}
 use Rattle.prpc_frames.specs.declared.frame.Frame.{Frame}
 use Rattle.prpc_frames.specs.Stream.Reading.{Stream}
@@ -20,13 +21,17 @@ pub record IsIdle (stream : Stream) : Type 0 where
   pub fault : stream.fault ≡ None
   pub place : stream.at < 2 ^ 64
 
+-- the meta of a reply to the attempt of this id, with this code
+abbrev pub reply_meta : ℕ → ℕ → Meta
+reply_meta id code = record { request = None; response = Some (record { code = Some (pos code); text = None }); compress = None; correlation = Some (pos id); attachment = None }
+
+-- the frame of a meta and a payload, without an attachment
+abbrev pub plain_frame : Meta → List ℕ → Frame
+plain_frame meta payload = record { meta = meta; payload = payload; attachment = [] }
+
 -- the frame of a reply
 abbrev pub reply_frame : Reply → Frame
-reply_frame reply = record {
-  meta = record { request = None; response = Some (record { code = Some (pos reply.code); text = None }); compress = None; correlation = Some (pos reply.id); attachment = None };
-  payload = reply.text;
-  attachment = [];
-}
+reply_frame reply = plain_frame (reply_meta reply.id reply.code) reply.text
 
 -- the id that a correlation id tells
 abbrev pub id_in : Option ℤ → Option ℕ

@@ -10,10 +10,10 @@ ghost use Rattle.rpc_model.specs.Marks.{begin, apply, set_mark, set_all, is_befo
 ghost use Rattle.call_tree.specs.Running.{IsEffects};
 ghost use Rattle.sim_run.specs.Calls.{due_taken, open_taken};
 
-use call_tree::{Call, Effects};
+use call_tree::{BareCall, Effects};
 use chan_tree::Plan;
 use rpc_base::{Bytes, NoMemory};
-use rpc_model::{Event, MapKind, MarkAt, MergeKind, Origin, Told};
+use rpc_model::{Event, MapKind, MarkAt, MergeKind, Told};
 use std::alloc::Global;
 use std::marker::Model;
 use std::sync::Arc;
@@ -22,7 +22,7 @@ use std::sync::Arc;
 #[derive(Drop)]
 pub(crate) struct OpenCall {
     alloc: Global,
-    call: Call<MapKind, MergeKind>,
+    call: BareCall<MapKind, MergeKind>,
     waiting: Vec<MarkAt>,
 }
 
@@ -55,7 +55,7 @@ impl OpenCall {
         ensures begun { IfOk result (λ r. r.0 ≡ begin call (arc_value plan) request moment) }
         ensures effects { IfOk result (λ r. IsEffects (start script_kinds (arc_value plan) call request moment) r.1) }
     {
-        let (call, effects) = Call::begin(alloc, plan, call, request, moment)?;
+        let (call, effects) = BareCall::begin(alloc, plan, call, request, moment)?;
         let mut waiting = Vec::new(alloc);
         set_marks(&mut waiting, effects.marks.list())?;
         Ok((
@@ -99,14 +99,13 @@ impl OpenCall {
         }
     }
 
-    /// Applies an event at a moment. A replay doesn't look at where an event came from.
+    /// Applies an event at a moment.
     pub(crate) fn apply(&mut self, event: Event, moment: u64) -> Result<Effects, NoMemory>
         requires early { moment < 2 ^ 60 }
         ensures applied { OnOk result (self.new ≡ apply self.old event moment) }
         ensures effects { IfOk result (λ effects. IsEffects (step script_kinds self.old.call self.old.state event moment) effects) }
     {
-        let from = Origin::Lane { lane: 0, place: 0 };
-        let effects = self.call.apply(self.alloc, event, moment, from)?;
+        let effects = self.call.apply(self.alloc, event, moment)?;
         set_marks(&mut self.waiting, effects.marks.list())?;
         Ok(effects)
     }

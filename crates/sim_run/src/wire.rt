@@ -1,11 +1,11 @@
 ghost use Rattle.std.specs.Prelude.{◌≡◌, ◌^◌, ◌<◌, ◌≤◌, length, IfOk, IfSome, OnOk, OnErr};
 ghost use Rattle.sim_run.specs.Wires.{idle_wire, sent, received, lost};
-ghost use Rattle.sim_run.specs.Link.{reply_frame, reply_in};
+ghost use Rattle.sim_run.specs.Link.{reply_meta, plain_frame, reply_in};
 ghost use Rattle.prpc_frames.specs.Stream.Reading.{later};
 ghost use Rattle.prpc_frames.specs.Stream.Spelling.{frame_bytes, IsFitting, IsTyped};
 
 use link_core::{Outlog, Outstanding};
-use prpc_frames::{Frame, Frames, begins_with_spelled, write_frame};
+use prpc_frames::{Frame, Frames, begins_with_spelled, write_parts};
 use rpc_base::{Bytes, NoMemory};
 use rpc_meta::{Meta, ResponseMeta, reply_code};
 use std::alloc::Global;
@@ -71,9 +71,8 @@ impl Wire {
         ensures reply { IfOk result (λ r. r ≡ record { id = id; code = code; text = text.now }) }
         ensures wire { OnOk result (self.new ≡ received (record { id = id; code = code; text = text.now }) self.old) }
     {
-        let text = clone_bytes(self.alloc, text)?;
-        let sent = frame_of(self.alloc, Reply { id, code, text });
-        let Some(reply) = reply_of(self.pass(&sent)?) else {
+        let meta = meta_of(id, code);
+        let Some(reply) = reply_of(self.pass(&meta, text.list())?) else {
             unreachable!()
         };
         self.outstanding.remove(reply.id);
@@ -87,16 +86,16 @@ impl Wire {
         self.outstanding.remove(id);
     }
 
-    /// The frame that comes in where this one is written, read from its bytes.
-    fn pass(&mut self, frame: &Frame) -> Result<Frame, NoMemory>
-        requires fitting { IsFitting frame.now }
-        requires typed { IsTyped frame.now.meta }
-        ensures frame { IfOk result (λ f. f ≡ frame.now) }
-        ensures wire { OnOk result (self.new ≡ record self.old { read = later self.old.read (length (frame_bytes frame.now)) }) }
+    /// The frame that comes in where that of this meta and this payload is written, read from its bytes.
+    fn pass(&mut self, meta: &Meta, payload: &[u8]) -> Result<Frame, NoMemory>
+        requires fitting { IsFitting (plain_frame meta.now payload.now) }
+        requires typed { IsTyped meta.now }
+        ensures frame { IfOk result (λ f. f ≡ plain_frame meta.now payload.now) }
+        ensures wire { OnOk result (self.new ≡ record self.old { read = later self.old.read (length (frame_bytes (plain_frame meta.now payload.now))) }) }
     {
         begins_with_spelled();
         self.bytes.clear();
-        write_frame(frame, &mut self.bytes)?;
+        write_parts(meta, payload, &[], &mut self.bytes)?;
         // The bytes of a frame that fits have no fault, so that only memory can be wanting.
         let Ok(()) = self.frames.feed(&self.bytes) else {
             return Err(NoMemory);
@@ -108,25 +107,21 @@ impl Wire {
     }
 }
 
-/// The frame of a reply.
-fn frame_of(alloc: Global, reply: Reply) -> Frame
-    requires id { reply.id < 2 ^ 63 }
-    requires code { reply.code ≤ 65535 }
-    ensures { result ≡ reply_frame reply }
+/// The meta of a reply to the attempt of this id, with this code.
+fn meta_of(id: u64, code: u32) -> Meta
+    requires id { id < 2 ^ 63 }
+    requires code { code ≤ 65535 }
+    ensures { result ≡ reply_meta id code }
 {
-    Frame {
-        meta: Meta {
-            request: None,
-            response: Some(ResponseMeta {
-                code: Some(reply.code as i32),
-                text: None,
-            }),
-            compress: None,
-            correlation: Some(reply.id as i64),
-            attachment: None,
-        },
-        payload: reply.text,
-        attachment: Bytes::of(Vec::new(alloc)),
+    Meta {
+        request: None,
+        response: Some(ResponseMeta {
+            code: Some(code as i32),
+            text: None,
+        }),
+        compress: None,
+        correlation: Some(id as i64),
+        attachment: None,
     }
 }
 

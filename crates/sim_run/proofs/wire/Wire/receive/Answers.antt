@@ -5,5 +5,5 @@ use Rattle.sim_run.proofs.wire.Wire.receive.Goals as goal
 
 pub pass-requires-clause-fitting : goal.pass-requires-clause-fitting
 pass-requires-clause-fitting c =
-    let short : length c.in_ok-text.text ≤ 60000 = omega (arith, ap length c.in_ok-text.ensures, c.requires.text) in
-    rw c.frame_of-sent.ensures (reply-fits (record { id = c.args.id; code = c.args.code; text = c.in_ok-text.text }) short)
+    let text = c.list.ensures in
+    rw (c.meta_of-meta.ensures, text) (reply-fits (record { id = c.args.id; code = c.args.code; text = c.args.text.now }) c.requires.text)
