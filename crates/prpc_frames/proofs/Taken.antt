@@ -1,11 +1,11 @@
 -- The whole frames that were taken so far, and the stream behind them.
-use Rattle.std.proofs.Common.{◌≡◌, ℕ, ◌+◌, ◌≤◌, List, [], ◌∷◌, ◌++◌, length, drop, Option, Some, None, Result, Ok, Err, IfOk, IfSome, ap, sym, subst, ◌∙◌, arith}
-use Rattle.std.proofs.lemmas.List.{drop-drop, append_assoc, append-nil, drop_all}
+use Rattle.std.proofs.Common.{◌≡◌, ℕ, ◌+◌, ◌≤◌, List, [], ◌∷◌, ◌++◌, length, drop, Option, Some, None, Result, Ok, Err, IfOk, IfSome, min, ap, sym, subst, ◌∙◌, arith}
+use Rattle.std.proofs.lemmas.List.{drop-drop, append_assoc, append-nil, drop_all, length-take, take-append-le}
 use Rattle.prpc_frames.specs.declared.fault.FeedFault.{FeedFault}
 use Rattle.prpc_frames.specs.declared.frame.Frame.{Frame}
 use Rattle.prpc_frames.specs.declared.reading.Whole.{Whole}
 use Rattle.prpc_frames.specs.Stream.Reading.{later, frame, Stream, before, frames, joined}
-use Rattle.prpc_frames.specs.Seen.{stream_seen}
+use Rattle.prpc_frames.specs.Seen.{stream_seen, IsFront}
 use Rattle.prpc_frames.proofs.Steps.{frames_by}
 
 -- a frame more
@@ -17,6 +17,12 @@ one_more fs gs at used w bytes all g e h =
     let first : frames at (drop used bytes) ≡ before w.frame behind = frames_by at (drop used bytes) (Ok (Some w)) e ∙ ap (λ (xs : List ℕ). before w.frame (frames (later at w.size) xs)) along in
     let longer : joined (fs ++ w.frame ∷ []) behind ≡ joined fs (before w.frame behind) = ap (λ (xs : List Frame). record behind { frames = xs }) (append_assoc fs (w.frame ∷ []) behind.frames) in
     ap (λ (xs : List Frame). joined xs behind) g ∙ (longer ∙ (sym (ap (λ (s : Stream). joined fs s) first) ∙ h))
+
+-- the frames that waited still stand in front
+pub front_more : (before now more : List Frame) → IsFront before now → IsFront before (now ++ more)
+front_more before now more h =
+    let size : min (length before) (length now) ≡ length before = sym (length-take (length before) now) ∙ ap length h in
+    take-append-le (length before) now more (omega (arith, size)) ∙ h
 
 -- no frame more
 pub no_more : (fs : List Frame) (at used : ℕ) (bytes : List ℕ) (all : Stream) → Ok None ≡ frame at (drop used bytes) → joined fs (frames at (drop used bytes)) ≡ all → stream_seen fs (record { used = used; at = at; fault = None }) bytes ≡ all

@@ -1,5 +1,5 @@
 -- How an answer of the code stands to the definition: this project's own choice.
-use Rattle.std.specs.Prelude.{◌≡◌, ◌≢◌, ℕ, List, [], drop, Option, Some, None, Result, Ok, Err}
+use Rattle.std.specs.Prelude.{◌≡◌, ◌≢◌, ℕ, List, [], length, take, drop, Option, Some, None, Result, Ok, Err}
 use Rattle.rpc_meta.specs.declared.fault.MetaFault.TheVariants as meta_fault
 use Rattle.prpc_frames.specs.declared.fault.FeedFault.{FeedFault}
 use Rattle.prpc_frames.specs.declared.fault.FeedFault.TheVariants.{Meta, Memory}
@@ -31,6 +31,10 @@ IsFinal e = Unit {0}
 -- what these bytes are, with these whole frames, up to where the reading came
 abbrev pub stream_seen : List Frame → Reached → List ℕ → Stream
 stream_seen fs r bytes = record { frames = fs; rest = drop r.used bytes; at = r.at; fault = r.fault }
+
+-- the second list begins with the first
+abbrev pub IsFront : List Frame → List Frame → Type 0
+IsFront before now = take (length before) now ≡ before
 
 -- the answer that tells a fault
 abbrev pub answer_of : Option FeedFault → Result (Unit {0}) FeedFault

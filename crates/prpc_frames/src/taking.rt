@@ -1,7 +1,7 @@
-ghost use Rattle.std.specs.Prelude.{◌≡◌, ◌++◌, ◌≤◌, length, drop, IfOk, IfSome, OnOk, OnErr};
+ghost use Rattle.std.specs.Prelude.{◌≡◌, ◌++◌, ◌≤◌, length, drop, IfOk, IfSome, OnErr};
 ghost use Rattle.std.specs.Vec.{vec_len};
 ghost use Rattle.prpc_frames.specs.Stream.Reading.{frames as frames_of, joined};
-ghost use Rattle.prpc_frames.specs.Seen.{answer_of, stream_seen, IsFinal};
+ghost use Rattle.prpc_frames.specs.Seen.{answer_of, stream_seen, IsFinal, IsFront};
 
 use crate::fault::FeedFault;
 use crate::frame::Frame;
@@ -30,60 +30,51 @@ impl Reached {
     }
 }
 
-/// The whole frames at the front of bytes that begin at the place `at` of the stream.
-fn read_frames(alloc: Global, at: u64, bytes: &[u8]) -> Result<(VecDeque<Frame>, Reached), NoMemory>
-    ensures read { IfOk result (λ x. stream_seen x.0.items x.1 bytes.now ≡ frames_of at bytes.now) }
-    ensures within { IfOk result (λ x. x.1.used ≤ length bytes.now) }
-    ensures lasting { IfOk result (λ x. IfSome x.1.fault IsFinal) }
+/// Reads the whole frames at the front of bytes that begin at the place `at` of the stream, and puts each behind those
+/// that wait. After want of memory some may stand there.
+fn read_frames(
+    alloc: Global,
+    at: u64,
+    bytes: &[u8],
+    waiting: &mut VecDeque<Frame>,
+) -> Result<Reached, NoMemory>
+    ensures read { IfOk result (λ r. stream_seen waiting.new.items r bytes.now ≡ joined waiting.old.items (frames_of at bytes.now)) }
+    ensures within { IfOk result (λ r. r.used ≤ length bytes.now) }
+    ensures lasting { IfOk result (λ r. IfSome r.fault IsFinal) }
+    ensures begun { OnErr result (IsFront waiting.old.items waiting.new.items) }
 {
-    let mut frames = VecDeque::new(alloc);
     let mut used = 0;
     let mut place = at;
     'frames: loop {
         match read_front(alloc, place, bytes.split_at(used).1)? {
             Ok(Some(whole)) => {
-                frames.push_back(whole.frame)?;
+                waiting.push_back(whole.frame)?;
                 place = place.saturating_add(whole.size as u64);
                 used += whole.size;
             }
             Ok(None) => {
-                return Ok((
-                    frames,
-                    Reached {
-                        used,
-                        at: place,
-                        fault: None,
-                    },
-                ));
+                return Ok(Reached {
+                    used,
+                    at: place,
+                    fault: None,
+                });
             }
             Err(fault) => {
-                return Ok((
-                    frames,
-                    Reached {
-                        used: bytes.len(),
-                        at: place,
-                        fault: Some(fault),
-                    },
-                ));
+                return Ok(Reached {
+                    used: bytes.len(),
+                    at: place,
+                    fault: Some(fault),
+                });
             }
         }
     }
 }
 
-/// Puts frames behind those that wait. Where none waits, the room of the frames before is given back.
-fn put_behind(waiting: &mut VecDeque<Frame>, mut frames: VecDeque<Frame>) -> Result<(), NoMemory>
-    ensures put { OnOk result (waiting.new.items ≡ waiting.old.items ++ frames.items) }
-    ensures kept { OnErr result (waiting.new.items ≡ waiting.old.items) }
-{
-    if waiting.is_empty() {
-        *waiting = frames;
-        return Ok(());
-    }
-    waiting.append(&mut frames)?;
-    Ok(())
-}
+/// Room for so many frames is kept where none waits.
+const KEPT_FRAMES: usize = 256;
 
-/// Puts the whole frames at the front of the bytes behind those that wait.
+/// Puts the whole frames at the front of the bytes behind those that wait. Where none waits, much of the room of the
+/// frames before is given back.
 fn move_frames(
     alloc: Global,
     at: u64,
@@ -95,9 +86,17 @@ fn move_frames(
     ensures lasting { IfOk result (λ r. IfSome r.fault IsFinal) }
     ensures kept { OnErr result (waiting.new.items ≡ waiting.old.items) }
 {
-    let (frames, reached) = read_frames(alloc, at, bytes)?;
-    put_behind(waiting, frames)?;
-    Ok(reached)
+    let before = waiting.len();
+    if before == 0 {
+        waiting.shrink_to(KEPT_FRAMES);
+    }
+    match read_frames(alloc, at, bytes, waiting) {
+        Ok(reached) => Ok(reached),
+        Err(NoMemory) => {
+            waiting.truncate(before);
+            Err(NoMemory)
+        }
+    }
 }
 
 /// So many bytes of room are kept, however few bytes there are.
