@@ -1,16 +1,16 @@
 -- What is found after one more number.
-use Rattle.std.proofs.Common.{◌≡◌, ℕ, ◌+◌, ◌-◌, ◌<◌, ◌≤◌, zero, suc, ◌==◌, nat_eq, nat_lt, Bool, true, false, cond, List, [], ◌∷◌, ◌++◌, length, length-append, position, get_or, slice_get, Option, Some, None, arith, ap, sym, ◌∙◌, refl, subst, nat_cmp, inl, inr, ◌⊎◌}
+use Rattle.std.proofs.Common.{◌≡◌, ℕ, ◌-◌, ◌≤◌, zero, suc, nat_eq, Bool, true, false, cond, ◌||◌, List, [], ◌∷◌, ◌++◌, length, length-append, position, Some, None, arith, ap, sym, ◌∙◌, refl, nat_cmp, inl, inr, ◌⊎◌}
 use Rattle.std.specs.List.{IsDistinct, list_any, position_or_len}
-use Rattle.std.specs.Option.{IfSome}
-use Rattle.std.specs.Cmp.{unsigned_ties}
+use Rattle.std.specs.Cmp.{unsigned_ties, nat_eq_equiv}
+use Rattle.std.specs.Map.{lookup}
 use Rattle.std.specs.BTreeMap.{BTreeMap, get, Updates}
 use Rattle.std.proofs.lemmas.Bool.{cases_Bool, eqb-true}
 use Rattle.std.proofs.lemmas.Bool.Decides.{nat_tests}
 use Rattle.std.proofs.lemmas.List.Folds.{position_or_len_push}
 use Rattle.std.proofs.lemmas.List.Sums.{prefix_len-le-length}
 use Rattle.std.proofs.lemmas.Map.Keys.{IsDistinct-push}
-use Rattle.rpc_model.proofs.First.{position_none, position_some}
-use Rattle.call_numbers.specs.Found.{guess, is_number, stands, found, AreFound}
+use Rattle.rpc_model.proofs.First.{position_none}
+use Rattle.call_numbers.specs.Found.{guess, follows, stands, found, AreFound}
 
 -- Tests of equal and of different numbers.
 same-eq : (a b : ℕ) → a ≡ b → nat_eq a b ≡ true
@@ -61,36 +61,43 @@ other-found old new [] x y differs same = ap (λ b. cond b (Some (y - x)) (get n
 other-found old new (z ∷ zs) x y differs same =
     ap (λ b. cond b (Some (y - z)) (get nat_cmp new y)) (stands-same (z ∷ zs) x y (y - z) differs) ∙ ap (cond (stands (z ∷ zs) y (y - z)) (Some (y - z))) same
 
+-- Behind others a number follows where its own place is behind the last.
+follows-some : (z : ℕ) (zs : List ℕ) (x : ℕ) → follows (z ∷ zs) x ≡ nat_eq (x - z) (length (z ∷ zs))
+follows-some z zs x = ap (λ b. b || nat_eq (x - z) (length (z ∷ zs))) (none-none (length zs))
+  where
+    none-none : (n : ℕ) → nat_eq (suc n) 0 ≡ false
+    none-none n = grind (arith, nat_tests)
+
 -- The new one is found where all follow each other.
 found-at : (places : BTreeMap ℕ ℕ) (xs : List ℕ) (x at : ℕ) → at ≡ length xs → cond (stands (xs ++ x ∷ []) x at) (Some at) (get nat_cmp places x) ≡ Some (length xs)
 found-at places xs x at e =
     ap (λ k. cond (stands (xs ++ x ∷ []) x k) (Some k) (get nat_cmp places x)) e
     ∙ ap (λ b. cond b (Some (length xs)) (get nat_cmp places x)) (stands-last xs x x ∙ same-eq x x refl)
 
-new-follows : (places : BTreeMap ℕ ℕ) (xs : List ℕ) (x : ℕ) → (length xs ≡ 0) ⊎ (guess xs x ≡ length xs) → found places (xs ++ x ∷ []) x ≡ Some (length xs)
-new-follows places [] x follows = found-at places [] x (x - x) (omega arith)
-new-follows places (z ∷ zs) x (inl none) = absurd (omega (arith, none))
-new-follows places (z ∷ zs) x (inr at) = found-at places (z ∷ zs) x (x - z) at
+new-follows : (places : BTreeMap ℕ ℕ) (xs : List ℕ) (x : ℕ) → follows xs x ≡ true → found places (xs ++ x ∷ []) x ≡ Some (length xs)
+new-follows places [] x h = found-at places [] x (x - x) (omega arith)
+new-follows places (z ∷ zs) x h = found-at places (z ∷ zs) x (x - z) (eqb-true (x - z) (length (z ∷ zs)) (sym (follows-some z zs x) ∙ h))
 
 -- The new one is found by the tree elsewhere, since it stands nowhere yet.
 stands-nowhere : (places : BTreeMap ℕ ℕ) (xs : List ℕ) (x : ℕ) (b : Bool) → stands xs x (guess xs x) ≡ b → found places xs x ≡ None → b ≡ false
 stands-nowhere places xs x true e none = absurd (some-none (sym (ap (λ c. cond c (Some (guess xs x)) (get nat_cmp places x)) e) ∙ none))
 stands-nowhere places xs x false e none = refl
 
-new-placed : (old new : BTreeMap ℕ ℕ) (xs : List ℕ) (x : ℕ) → (length xs ≡ 0 → ⊥) → (guess xs x ≡ length xs → ⊥) → found old xs x ≡ None → get nat_cmp new x ≡ Some (length xs) → found new (xs ++ x ∷ []) x ≡ Some (length xs)
-new-placed old new [] x some elsewhere none is = absurd (some refl)
-new-placed old new (z ∷ zs) x some elsewhere none is =
+new-placed : (old new : BTreeMap ℕ ℕ) (xs : List ℕ) (x : ℕ) → follows xs x ≡ false → found old xs x ≡ None → get nat_cmp new x ≡ Some (length xs) → found new (xs ++ x ∷ []) x ≡ Some (length xs)
+new-placed old new [] x other none is = absurd (true-false other)
+new-placed old new (z ∷ zs) x other none is =
     ap (λ b. cond b (Some (x - z)) (get nat_cmp new x))
-    (stands-elsewhere (z ∷ zs) x x (x - z) elsewhere ∙ stands-nowhere old (z ∷ zs) x (stands (z ∷ zs) x (x - z)) refl none) ∙ is
+    (stands-elsewhere (z ∷ zs) x x (x - z) (λ e. true-false (sym (same-eq (x - z) (length (z ∷ zs)) e) ∙ (sym (follows-some z zs x) ∙ other)))
+    ∙ stands-nowhere old (z ∷ zs) x (stands (z ∷ zs) x (x - z)) refl none) ∙ is
 
 -- No number passes a test that has no place.
 none-passes : (p : ℕ → Bool) (xs : List ℕ) → length xs ≤ position_or_len p xs → list_any p xs ≡ false
 none-passes p [] h = refl
-none-passes p (x ∷ xs) h = at (p x) refl
+none-passes p (x ∷ xs) h = at (p x) refl (none-passes p xs)
   where
-    at : (b : Bool) → p x ≡ b → list_any p (x ∷ xs) ≡ false
-    at true e = absurd (let z : position_or_len p (x ∷ xs) ≡ 0 = grind arith in omega (arith, h, z))
-    at false e = let z : position_or_len p (x ∷ xs) ≡ suc (position_or_len p xs) = grind arith in ap (λ b. cond b true (list_any p xs)) e ∙ none-passes p xs (omega (arith, h, z))
+    at : (b : Bool) → p x ≡ b → (length xs ≤ position_or_len p xs → list_any p xs ≡ false) → list_any p (x ∷ xs) ≡ false
+    at true e next = absurd (let z : position_or_len p (x ∷ xs) ≡ 0 = grind arith in omega (arith, h, z))
+    at false e next = let z : position_or_len p (x ∷ xs) ≡ suc (position_or_len p xs) = grind arith in ap (λ b. b || list_any p xs) e ∙ next (omega (arith, h, z))
 
 once-more : (xs : List ℕ) (x : ℕ) → position (nat_eq x) xs ≡ None → IsDistinct nat_eq xs → IsDistinct nat_eq (xs ++ x ∷ [])
 once-more xs x none once = IsDistinct-push nat_eq_equiv xs x once (none-passes (nat_eq x) xs (position_none (nat_eq x) xs none))
@@ -109,18 +116,19 @@ more old new xs x h none others here = record { finds = λ y. at y (cases_Bool (
         ∙ sym (position_push (nat_eq y) xs x (λ same. absurd (true-false (sym same ∙ differs))) ∙ ap (λ b. cond b (Some (length xs)) (position (nat_eq y) xs)) differs)
 
 -- One more that follows the others.
-pub one_follows : (places : BTreeMap ℕ ℕ) (xs : List ℕ) (x : ℕ) → AreFound places xs → position (nat_eq x) xs ≡ None → (length xs ≡ 0) ⊎ (guess xs x ≡ length xs) → AreFound places (xs ++ x ∷ [])
-one_follows places xs x h none follows = more places places xs x h none (λ y differs. refl) (new-follows places xs x follows)
+pub one_follows : (places : BTreeMap ℕ ℕ) (xs : List ℕ) (x : ℕ) → AreFound places xs → position (nat_eq x) xs ≡ None → follows xs x ≡ true → AreFound places (xs ++ x ∷ [])
+one_follows places xs x h none here = more places places xs x h none (λ y differs. refl) (new-follows places xs x here)
 
 -- One more that doesn't, and goes into the tree.
-pub one_placed : (old new : BTreeMap ℕ ℕ) (xs : List ℕ) (x : ℕ) → AreFound old xs → position (nat_eq x) xs ≡ None → (length xs ≡ 0 → ⊥) → (guess xs x ≡ length xs → ⊥) → Updates nat_cmp old new x (Some (length xs)) → AreFound new (xs ++ x ∷ [])
-one_placed old new xs x h none some elsewhere updates =
+pub one_placed : (old new : BTreeMap ℕ ℕ) (xs : List ℕ) (x : ℕ) → AreFound old xs → position (nat_eq x) xs ≡ None → follows xs x ≡ false → Updates nat_cmp old new x (Some (length xs)) → AreFound new (xs ++ x ∷ [])
+one_placed old new xs x h none other updates =
     more old new xs x h none (λ y differs. looked y ∙ ap (λ b. cond b (Some (length xs)) (get nat_cmp old y)) (turned x y differs))
-    (new-placed old new xs x some elsewhere (h.finds x ∙ none) (looked x ∙ ap (λ b. cond b (Some (length xs)) (get nat_cmp old x)) (same-eq x x refl)))
+    (new-placed old new xs x other (h.finds x ∙ none) (looked x ∙ ap (λ b. cond b (Some (length xs)) (get nat_cmp old x)) (same-eq x x refl)))
   where
     looked : (y : ℕ) → get nat_cmp new y ≡ cond (nat_eq x y) (Some (length xs)) (get nat_cmp old y)
     looked y = updates.0 y ∙ ap (λ b. cond b (Some (length xs)) (get nat_cmp old y)) (sym (unsigned_ties x y))
 
 -- No number, no place.
-pub none_found : (places : BTreeMap ℕ ℕ) → ((y : ℕ) → get nat_cmp places y ≡ None) → AreFound places []
-none_found places empty = record { finds = empty; once = tt }
+pub none_found : (places : BTreeMap ℕ ℕ) → places.entries ≡ [] → AreFound places []
+unfolding IsDistinct
+none_found places empty = record { finds = λ y. ap (lookup _) empty; once = tt }

@@ -1,5 +1,5 @@
 -- How a number is found among numbers that differ: where it stands if all follow each other, and else by a tree. This project's own choice.
-use Rattle.std.specs.Prelude.{◌≡◌, ℕ, ◌-◌, nat_eq, Bool, false, List, slice_get, get_or, position, Option, None, Some, if◌then◌else◌}
+use Rattle.std.specs.Prelude.{◌≡◌, ℕ, ◌-◌, nat_eq, Bool, false, ◌||◌, length, List, slice_get, get_or, position, Option, None, Some, if◌then◌else◌}
 use Rattle.std.specs.List.{IsDistinct}
 use Rattle.std.specs.Ordering.{nat_cmp}
 use Rattle.std.specs.BTreeMap.{BTreeMap, get}
@@ -7,6 +7,10 @@ use Rattle.std.specs.BTreeMap.{BTreeMap, get}
 -- where a number stands if all follow each other
 abbrev pub guess : List ℕ → ℕ → ℕ
 guess numbers number = number - get_or numbers 0 0
+
+-- whether a number stands behind the last one where all follow each other
+abbrev pub follows : List ℕ → ℕ → Bool
+follows numbers number = nat_eq (length numbers) 0 || nat_eq (guess numbers number) (length numbers)
 
 abbrev pub is_number : ℕ → Option ℕ → Bool
 is_number number None = false

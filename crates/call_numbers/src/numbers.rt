@@ -62,9 +62,9 @@ impl Numbers {
         ensures there { IfSome result (λ at. at < length self.now) }
         ensures once { IsDistinct nat_eq self.now }
     {
-        let guess = self.guess(number);
-        if self.stands(number, guess) {
-            return Some(guess);
+        let at = guess(self.numbers.as_slice(), number);
+        if stands(self.numbers.as_slice(), number, at) {
+            return Some(at);
         }
         let place = self.places.get(&number)?;
         Some(*place)
@@ -78,7 +78,7 @@ impl Numbers {
         ensures once { IsDistinct nat_eq self.new }
     {
         let place = self.numbers.len();
-        let follows = place == 0 || self.guess(number) == place;
+        let follows = follows(self.numbers.as_slice(), number);
         self.numbers.push(number)?;
         if follows {
             return Ok(());
@@ -91,24 +91,31 @@ impl Numbers {
             }
         }
     }
+}
 
-    /// Where a number stands if all follow each other.
-    fn guess(&self, number: u32) -> usize
-        ensures { result ≡ found.guess self.inside.numbers.items number }
-    {
-        match self.numbers.first() {
-            Some(first) => number.saturating_sub(*first) as usize,
-            None => number as usize,
-        }
+/// Where a number stands if all follow each other.
+fn guess(numbers: &[u32], number: u32) -> usize
+    ensures { result ≡ found.guess numbers.now number }
+{
+    match numbers.first() {
+        Some(first) => number.saturating_sub(*first) as usize,
+        None => number as usize,
     }
+}
 
-    /// Whether a number stands at a place.
-    fn stands(&self, number: u32, place: usize) -> bool
-        ensures { result ≡ found.stands self.now number place }
-    {
-        match self.numbers.get(place) {
-            Some(other) => number == *other,
-            None => false,
-        }
+/// Whether a number stands at a place.
+fn stands(numbers: &[u32], number: u32, place: usize) -> bool
+    ensures { result ≡ found.stands numbers.now number place }
+{
+    match numbers.get(place) {
+        Some(other) => number == *other,
+        None => false,
     }
+}
+
+/// Whether a number follows the others, as each of them the one before, or is the first.
+fn follows(numbers: &[u32], number: u32) -> bool
+    ensures { result ≡ found.follows numbers.now number }
+{
+    numbers.is_empty() || guess(numbers, number) == numbers.len()
 }
