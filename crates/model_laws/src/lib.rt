@@ -8,30 +8,15 @@
 mod laws;
 mod leaf_laws;
 
-pub use laws::due_marks_may_be_taken_at_once;
-pub use laws::ends_stay;
-pub use laws::good_ends_need_a_live_reply;
-pub use laws::good_nodes_have_a_good_leaf;
-pub use laws::late_lines_tell_nothing;
-pub use laws::leaves_issue_few;
-pub use laws::moments_are_early;
-pub use laws::nodes_are_of_the_plan;
-pub use laws::nodes_stay;
-pub use laws::nothing_is_sent_twice;
-pub use laws::offsets_and_meanings_are_inverse;
-pub use laws::parallel_nodes_are_even;
-pub use laws::parallel_nodes_stand_by_completions;
-pub use laws::sends_are_attempts;
-pub use laws::sends_are_of_the_state;
-pub use laws::taken_marks_were_set;
-pub use laws::told_attempts_are_few;
-pub use laws::told_ends_are_the_machines;
-pub use laws::told_once;
-pub use laws::told_texts_need_a_reply;
-pub use laws::tries_are_few;
-pub use laws::weaves_join;
-pub use leaf_laws::attempts_are_few;
-pub use leaf_laws::leaf_sends_are_attempts;
-pub use leaf_laws::one_attempt;
-pub use leaf_laws::replaced_attempts_do_nothing;
-pub use leaf_laws::success_needs_a_live_reply;
+pub use laws::{
+    due_marks_may_be_taken_at_once, ends_stay, good_ends_need_a_live_reply,
+    good_nodes_have_a_good_leaf, late_lines_tell_nothing, leaves_issue_few, moments_are_early,
+    nodes_are_of_the_plan, nodes_stay, nothing_is_sent_twice, offsets_and_meanings_are_inverse,
+    parallel_nodes_are_even, parallel_nodes_stand_by_completions, sends_are_attempts,
+    sends_are_of_the_state, taken_marks_were_set, told_attempts_are_few,
+    told_ends_are_the_machines, told_once, told_texts_need_a_reply, tries_are_few, weaves_join,
+};
+pub use leaf_laws::{
+    attempts_are_few, leaf_sends_are_attempts, one_attempt, replaced_attempts_do_nothing,
+    success_needs_a_live_reply,
+};
