@@ -6,7 +6,7 @@ cd "$(dirname "$0")/.." || exit 1
 said=${TMPDIR:-/tmp}/brpc_run_build.$$.log
 : >"$said"
 # The crates below the program, in the order of the map.
-for crate in rpc_base bit_set rpc_model model_laws call_script rpc_meta prpc_frames id_pool timer_core chan_tree fan_out call_leaf call_tree link_core sim_run script_gen brpc_top; do
+for crate in rpc_base bit_set rpc_model model_laws call_numbers call_script rpc_meta prpc_frames id_pool timer_core chan_tree fan_out call_leaf call_tree link_core sim_run script_gen brpc_top; do
     start=$SECONDS
     if (cd "crates/$crate" && rt check) >>"$said" 2>&1; then
         functions=$(tail -n 1 "$said" | sed -n 's/.*functions=\([0-9]*\).*/\1/p')
