@@ -72,26 +72,14 @@ impl<M: Mapper + Copy, G: Merger + Copy> BareCall<M, G> {
     ///
     /// It answers what this made the call do. An event that names no node or no attempt of the plan, or one that has an end
     /// or was replaced, does nothing. After want of memory the call is as it was before.
-    pub fn apply(
-        &mut self,
-        alloc: Global,
-        event: Event,
-        moment: u64,
-    ) -> Result<Effects, NoMemory>
+    pub fn apply(&mut self, alloc: Global, event: Event, moment: u64) -> Result<Effects, NoMemory>
         requires early { moment < 2 ^ 60 }
         ensures applied { OnOk result (self.new ≡ record self.old { state = (step (kinds_of M.answer G.answer) self.old.call self.old.state event moment).state }) }
         ensures effects { IfOk result (λ effects. IsEffects (step (kinds_of M.answer G.answer) self.old.call self.old.state event moment) effects) }
         ensures kept { OnErr result (self.new ≡ self.old) }
     {
         let mut out = Outbox::new(alloc);
-        self.tree.step(
-            alloc,
-            self.plan.nodes(),
-            self.call,
-            event,
-            moment,
-            &mut out,
-        )?;
+        self.tree.step(alloc, self.plan.nodes(), self.call, event, moment, &mut out)?;
         Ok(effects_of(out, &self.tree))
     }
 }

@@ -68,14 +68,7 @@ impl LeafNode {
         match leaf.apply(coming) {
             LeafStep::Nothing => Ok(None),
             LeafStep::Issue(attempt) => {
-                out.send(
-                    alloc,
-                    &*self.chan,
-                    call,
-                    node,
-                    attempt,
-                    self.request.list(),
-                )?;
+                out.send(alloc, &*self.chan, call, node, attempt, self.request.list())?;
                 Ok(None)
             }
             LeafStep::Won(_) => {
@@ -112,14 +105,7 @@ impl LeafNode {
         let end = match leaf.apply(coming) {
             LeafStep::Nothing => None,
             LeafStep::Issue(attempt) => {
-                out.send(
-                    alloc,
-                    &*self.chan,
-                    call,
-                    node,
-                    attempt,
-                    self.request.list(),
-                )?;
+                out.send(alloc, &*self.chan, call, node, attempt, self.request.list())?;
                 None
             }
             LeafStep::Won(_) => Some(End::Good(into_text(alloc, event))),
