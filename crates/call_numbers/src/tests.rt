@@ -1,5 +1,4 @@
 use super::*;
-use std::alloc::Global;
 
 /// Numbers are found where they were added, in whatever order they came.
 #[test]
@@ -12,7 +11,9 @@ fn numbers_are_found(rt: HostRuntime) {
     ] {
         let mut numbers = Numbers::new(rt.alloc());
         for number in added {
-            numbers.push(*number).unwrap();
+            if numbers.place_of(*number).is_none() {
+                numbers.push(*number).unwrap();
+            }
         }
         assert_eq!(&rt; numbers.len(), added.len());
         assert_eq!(&rt; numbers.is_empty(), added.is_empty());
