@@ -12,7 +12,7 @@ fn numbers_are_found(rt: HostRuntime) {
         let mut numbers = Numbers::new(rt.alloc());
         for number in added {
             if numbers.place_of(*number).is_none() {
-                numbers.push(*number).unwrap();
+                assert_eq!(&rt; numbers.push(*number).is_ok(), true);
             }
         }
         assert_eq!(&rt; numbers.len(), added.len());
