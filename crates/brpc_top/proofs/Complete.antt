@@ -38,15 +38,21 @@ refused-told None rest held written refused t = refused
 refused-told (Some bytes) rest held written refused t = ok-err (script Sim bytes) t.1 refused.0 (sym (same_script bytes rest t.0 t.2) ∙ t.3) refused.1
 
 -- The script decides the status, by what the status says.
-pub decided : (left rest held written : Option (List ℕ)) (status : ℕ) → IsReplayStatus status → (status ≡ 0 → TellsAll left rest held written) → (status ≡ 5 → Refuses left rest held written) → IsDecided left status
-decided left rest held written status (inl done) tells refuses = record { complete = λ accepted no_read no_write. inl done; refuses_all = λ refused no_read no_write. absurd (refused-told left rest held written refused (tells done)) }
-decided left rest held written status (inr (inl read)) tells refuses = record { complete = λ accepted no_read no_write. absurd (no_read read); refuses_all = λ refused no_read no_write. absurd (no_read read) }
-decided left rest held written status (inr (inr (inl write))) tells refuses = record { complete = λ accepted no_read no_write. absurd (no_write write); refuses_all = λ refused no_read no_write. absurd (no_write write) }
-decided left rest held written status (inr (inr (inr (inl bad)))) tells refuses = record { complete = λ accepted no_read no_write. absurd (accepted-refused left rest held written accepted (refuses bad)); refuses_all = λ refused no_read no_write. inl bad }
+pub decided : (left rest held written : Option (List ℕ)) (status : ℕ) → IsReplayStatus status → (status ≡ 0 → TellsAll left rest held written)
+    → (status ≡ 5 → Refuses left rest held written) → IsDecided left status
+decided left rest held written status (inl done) tells refuses =
+    record { complete = λ accepted no_read no_write. inl done; refuses_all = λ refused no_read no_write. absurd (refused-told left rest held written refused (tells done)) }
+decided left rest held written status (inr (inl read)) tells refuses =
+    record { complete = λ accepted no_read no_write. absurd (no_read read); refuses_all = λ refused no_read no_write. absurd (no_read read) }
+decided left rest held written status (inr (inr (inl write))) tells refuses =
+    record { complete = λ accepted no_read no_write. absurd (no_write write); refuses_all = λ refused no_read no_write. absurd (no_write write) }
+decided left rest held written status (inr (inr (inr (inl bad)))) tells refuses =
+    record { complete = λ accepted no_read no_write. absurd (accepted-refused left rest held written accepted (refuses bad)); refuses_all = λ refused no_read no_write. inl bad }
 decided left rest held written status (inr (inr (inr (inr memory)))) tells refuses = record { complete = λ accepted no_read no_write. inr memory; refuses_all = λ refused no_read no_write. inr memory }
 
 -- All of the output was written, and no count of faults rose: the script has given the status.
-pub all_written : {K : Type 0} (left rest : Option (List ℕ)) (reads_before reads_now : ℕ) (held written : Option (List ℕ)) (writes_before writes_now : ℕ) (sink_before sink_now : K) (bytes : List ℕ) (status : ℕ)
+pub all_written : {K : Type 0} (left rest : Option (List ℕ)) (reads_before reads_now : ℕ) (held written : Option (List ℕ))
+    (writes_before writes_now : ℕ) (sink_before sink_now : K) (bytes : List ℕ) (status : ℕ)
     → IsRead left rest bytes → reads_now ≡ reads_before → writes_now ≡ writes_before → Appends held written (output (script Sim bytes)) → status ≡ status_of (script Sim bytes)
     → IsReplay left rest reads_before reads_now held written writes_before writes_now sink_before sink_now status
 all_written left rest reads_before reads_now held written writes_before writes_now sink_before sink_now bytes status read no_read no_write appends e = by (script Sim bytes) refl appends e

@@ -1,5 +1,6 @@
 -- A number of calls, read by the standard library.
-use Rattle.std.proofs.Common.{◌≡◌, ◌≢◌, ℕ, ◌+◌, ◌*◌, ◌-◌, ◌^◌, ◌<◌, ◌≤◌, Bool, true, false, not, ◌==◌, ◌&&◌, ◌||◌, nat_le, List, [], ◌∷◌, length, get_or, Some, None, Ok, Err, refl, sym, ap, ◌∙◌, rules, arith}
+use Rattle.std.proofs.Common.{◌≡◌, ◌≢◌, ℕ, ◌+◌, ◌*◌, ◌-◌, ◌^◌, ◌<◌, ◌≤◌, Bool, true, false, not, ◌==◌, ◌&&◌, ◌||◌, nat_le, List, [], ◌∷◌, length, get_or, Some, None, Ok, Err, refl, sym, ap, ◌∙◌}
+use Rattle.std.proofs.Common.{rules, arith}
 use Rattle.std.specs.Str.Parse.{ParsesUnsigned}
 use Rattle.std.proofs.lemmas.Bool.{true≢false, and_parts, and_from, ne_eqb}
 use Rattle.std.proofs.lemmas.Bool.Decides.{nat_tests}
@@ -13,7 +14,8 @@ digits ds = all_within 48 57 ds
 tells : IsDigitsTest (λ ds. digits ds ≡ true)
 tells = record {
   empty = refl;
-  parts = λ c cs h. let p = and_parts (nat_le 48 c && nat_le c 57) (digits cs) h in (let low : 48 ≤ c = grind (arith, nat_tests, p.0) in let high : c ≤ 57 = grind (arith, nat_tests, p.0) in (low, high), p.1);
+  parts = λ c cs h. let p = and_parts (nat_le 48 c && nat_le c 57) (digits cs) h in
+      (let low : 48 ≤ c = grind (arith, nat_tests, p.0) in let high : c ≤ 57 = grind (arith, nat_tests, p.0) in (low, high), p.1);
   more = λ c cs r h. and_from (nat_le 48 c && nat_le c 57) (digits cs) (let low : 48 ≤ c = r.0 in let high : c ≤ 57 = r.1 in grind (arith, nat_tests)) h;
 }
 
@@ -38,7 +40,8 @@ started-count (b ∷ bs) h =
     let s = started b h in
     let no_zero : (length bs == 0 || not (b == 48)) ≡ true = or-second (length bs == 0) (not (b == 48)) (ap (λ (t : Bool). not t) (ne_eqb b 48 (λ e. absurd (omega (arith, e, s.0))))) in
     let some : nat_le 1 (digits_after (10 * 0 + (b - 48)) bs) ≡ true = at_least (digits_after (10 * 0 + (b - 48)) bs) (omega (arith, after-le (10 * 0 + (b - 48)) bs, s.0)) in
-    ap (λ (t : Bool). count_where (t && (nat_le 1 (digits_after 0 (b ∷ bs)) && nat_le (digits_after 0 (b ∷ bs)) 100000)) (digits_after 0 (b ∷ bs))) (ap (λ (t : Bool). digits (b ∷ bs) && t) no_zero ∙ and-true (digits (b ∷ bs)))
+    ap (λ (t : Bool). count_where (t && (nat_le 1 (digits_after 0 (b ∷ bs)) && nat_le (digits_after 0 (b ∷ bs)) 100000)) (digits_after 0 (b ∷ bs)))
+    (ap (λ (t : Bool). digits (b ∷ bs) && t) no_zero ∙ and-true (digits (b ∷ bs)))
     ∙ ap (λ (t : Bool). count_where (digits (b ∷ bs) && (t && nat_le (digits_after 0 (b ∷ bs)) 100000)) (digits_after 0 (b ∷ bs))) some
   where
     at_least : (n : ℕ) → 1 ≤ n → nat_le 1 n ≡ true
@@ -71,8 +74,10 @@ unstarted (b ∷ c ∷ bs) h = by (nat_le 48 b && nat_le b 57) refl
     by : (t : Bool) → (nat_le 48 b && nat_le b 57) ≡ t → count_of (b ∷ c ∷ bs) ≡ None
     by true q =
         let few : (length (c ∷ bs) == 0) ≡ false = ne_eqb (length (c ∷ bs)) 0 (λ e. absurd (omega (arith, e))) in
-        rw (zero_is b h q) (ap (λ (t : Bool). count_where ((digits (48 ∷ c ∷ bs) && (t || false)) && (nat_le 1 (digits_after 0 (48 ∷ c ∷ bs)) && nat_le (digits_after 0 (48 ∷ c ∷ bs)) 100000)) (digits_after 0 (48 ∷ c ∷ bs))) few
-        ∙ ap (λ (t : Bool). count_where (t && (nat_le 1 (digits_after 0 (48 ∷ c ∷ bs)) && nat_le (digits_after 0 (48 ∷ c ∷ bs)) 100000)) (digits_after 0 (48 ∷ c ∷ bs))) (and-false (digits (48 ∷ c ∷ bs))))
+        rw (zero_is b h q) (ap (λ (t : Bool). count_where
+        ((digits (48 ∷ c ∷ bs) && (t || false)) && (nat_le 1 (digits_after 0 (48 ∷ c ∷ bs)) && nat_le (digits_after 0 (48 ∷ c ∷ bs)) 100000)) (digits_after 0 (48 ∷ c ∷ bs))) few
+        ∙ ap (λ (t : Bool). count_where (t && (nat_le 1 (digits_after 0 (48 ∷ c ∷ bs)) && nat_le (digits_after 0 (48 ∷ c ∷ bs)) 100000)) (digits_after 0 (48 ∷ c ∷ bs)))
+        (and-false (digits (48 ∷ c ∷ bs))))
     by false q = rw q refl
 
 no_plus : (bs : List ℕ) → is_started bs ≡ true → get_or bs 0 0 ≢ 43

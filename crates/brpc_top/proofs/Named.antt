@@ -7,46 +7,6 @@ use Rattle.brpc_top.specs.Words.{is_dashed, pair_of, judged, command_of, count_o
 use Rattle.brpc_top.proofs.Taken.{pair_in}
 use Rattle.brpc_top.proofs.Counted.{count-bounds}
 
--- A word with a hyphen in front is no name of the table.
-dashed-alone : (a : List ℕ) → is_dashed a ≡ true → judged a None ≡ None
-dashed-alone [] e = absurd (true≢false (sym e))
-dashed-alone (b ∷ bs) e = rw (eqb-true b 45 e) refl
-
-dashed-first : (a n : List ℕ) → is_dashed a ≡ true → judged a (Some n) ≡ None
-dashed-first [] n e = absurd (true≢false (sym e))
-dashed-first (b ∷ bs) n e = rw (eqb-true b 45 e) refl
-
--- It is no count either.
-dashed-count : (n : List ℕ) → is_dashed n ≡ true → count_of n ≡ None
-dashed-count [] e = absurd (true≢false (sym e))
-dashed-count (b ∷ bs) e = rw (eqb-true b 45 e) refl
-
-none-counted : (a : List ℕ) (n : Option ℕ) → n ≡ None → (if bytes_eq a (codes "gen") then counted Gen n else if bytes_eq a (codes "load") then counted Load n else None) ≡ None
-none-counted a n e =
-    rw e (elim (bytes_eq a (codes "gen")) as (λ (x : Bool). (if x then counted Gen None else if bytes_eq a (codes "load") then counted Load None else None) ≡ None) [
-      | true ↦ refl
-      | false ↦ elim (bytes_eq a (codes "load")) as (λ (y : Bool). (if y then counted Load None else None) ≡ None) [ true ↦ refl | false ↦ refl ]
-    ])
-
-dashed-second : (a n : List ℕ) → is_dashed n ≡ true → judged a (Some n) ≡ None
-dashed-second a n e = none-counted a (count_of n) (dashed-count n e)
-
--- A list that isn't of the form names no command.
-pub unformed : (ws : List (List ℕ)) → is_some (pair_of ws) ≡ false → command_of ws ≡ None
-unformed [] e = refl
-unformed (a ∷ []) e = by (is_dashed a) refl
-  where
-    by : (d : Bool) → is_dashed a ≡ d → judged a None ≡ None
-    by true q = dashed-alone a q
-    by false q = absurd (true≢false (rw q at e))
-unformed (a ∷ n ∷ []) e = by (is_dashed a) (is_dashed n) refl refl
-  where
-    by : (x y : Bool) → is_dashed a ≡ x → is_dashed n ≡ y → judged a (Some n) ≡ None
-    by true y p q = dashed-first a n p
-    by false true p q = dashed-second a n q
-    by false false p q = absurd (true≢false (rw (p, q) at e))
-unformed (a ∷ n ∷ c ∷ more) e = refl
-
 same_judged : (p q : List ℕ × Option (List ℕ)) → Some p ≡ Some q → judged p.0 p.1 ≡ judged q.0 q.1
 same_judged p q e = let same : p ≡ q = cc in ap (λ (r : List ℕ × Option (List ℕ)). judged r.0 r.1) same
 

@@ -108,7 +108,8 @@ first-two a b e f =
 abbrev all-pass : Walk → Bool → Bool
 all-pass w b =
     entered_passes (built program) w.stopped
-    && (b && (settle_passes shape.rules shape.args_override_self w.held && (list_all default_passes shape.rules && is_valid shape (finished shape.rules w.held) (is_some (entered (built program) w.stopped)))))
+    && (b && (settle_passes shape.rules shape.args_override_self w.held &&
+    (list_all default_passes shape.rules && is_valid shape (finished shape.rules w.held) (is_some (entered (built program) w.stopped)))))
 
 words-one : (a : Text) → is_dashed a ≡ false → walk_passes shape [] (walk_from nothing_held) (a ∷ []) ≡ true
 unfolding walk_passes at
@@ -161,9 +162,11 @@ pair-is (a ∷ b ∷ []) e = let d = two-plain a b e in let f = first-two a b d.
 pair-is (a ∷ b ∷ c ∷ more) e = absurd (true≢false (sym e))
 
 -- what the getters give
-pub got-is : (ws : List Text) (m : ArgMatches) (a n : Option Text) → is_some (pair_of ws) ≡ true → HasMatchesOf program ws m → a ≡ first_value (found_of m) (codes "command") → n ≡ first_value (found_of m) (codes "count")
+pub got-is : (ws : List Text) (m : ArgMatches) (a n : Option Text) → is_some (pair_of ws) ≡ true → HasMatchesOf program ws m
+    → a ≡ first_value (found_of m) (codes "command") → n ≡ first_value (found_of m) (codes "count")
     → pair_in a n ≡ pair_of ws
 got-is ws m a n e h p q =
     let rows = (h simple).0 in
-    ap₂ pair_in (p ∙ (first_value-rows (found_of m) (codes "command") ∙ ap (λ (r : List Row). first_of (codes "command") r) rows)) (q ∙ (first_value-rows (found_of m) (codes "count") ∙ ap (λ (r : List Row). first_of (codes "count") r) rows))
+    ap₂ pair_in (p ∙ (first_value-rows (found_of m) (codes "command") ∙ ap (λ (r : List Row). first_of (codes "command") r) rows)) (q
+    ∙ (first_value-rows (found_of m) (codes "count") ∙ ap (λ (r : List Row). first_of (codes "count") r) rows))
     ∙ pair-is ws e

@@ -59,7 +59,8 @@ TellsAll left rest held written =
 -- The script grammar refuses the bytes read at this line for this cause, and that is what was written.
 abbrev pub Refuses : (left rest held written : Option (List ℕ)) → Type 0
 Refuses left rest held written =
-    (bytes : List ℕ) × (line : ℕ) × (cause : Cause) × IsRead left rest bytes × (script Sim bytes ≡ Err (line, cause)) × Appends held written (refused_text line cause)
+    (bytes : List ℕ) × (line : ℕ) × (cause : Cause) × IsRead left rest bytes × (script Sim bytes ≡ Err (line, cause))
+    × Appends held written (refused_text line cause)
 
 -- Of what would have been written of the bytes read, a front was.
 abbrev pub BreaksOff : (left rest held written : Option (List ℕ)) → Type 0

@@ -4,11 +4,12 @@ use std::alloc::{AllocError, Global};
 use std::process::Abort;
 use std::test::Fail;
 
-/// What a run ended with, and what it wrote.
+/// What a run ended with, what it wrote, and how often the source or the sink failed.
 #[derive(Drop)]
 struct Outcome {
     status: u8,
     text: Vec<u8>,
+    faults: u64,
 }
 
 /// How a source and a sink behave: the most bytes a call, and the calls that fail.
@@ -46,6 +47,7 @@ fn run_over(
     Ok(Outcome {
         status,
         text: Vec::from_slice(alloc, sink.bytes())?,
+        faults: source.faults().saturating_add(sink.faults()),
     })
 }
 
@@ -207,5 +209,29 @@ fn faults_of_the_outside(rt: HostRuntime) -> Result<(), Fail> {
     let got = run_over(rt.alloc(), &["sim"], "what\n", &outside)?;
     assert_eq!(rt; got.status, 4);
     assert_eq!(rt; got.text.as_slice(), b"refused ".as_slice());
+    Ok(())
+}
+
+/// No call comes behind the last one that is needed: the read behind the end and the write behind the last byte would
+/// fail.
+#[test]
+fn calls_that_are_not_made(rt: HostRuntime) -> Result<(), Fail> {
+    let rows: [(&[&str], &str, u64, u64); 4] = [
+        (&["sim"], ROW, 2, 1),
+        (&["sim"], "", 1, 0),
+        (&["gen", "1"], ROW, 0, 1),
+        (&["load", "1"], ROW, 0, 1),
+    ];
+    for (words, script, reads, writes) in rows {
+        let outside = Outside {
+            read_piece: 65_536,
+            failing_reads: &[reads],
+            write_piece: 65_536,
+            failing_writes: &[writes],
+        };
+        let got = run_over(rt.alloc(), words, script, &outside)?;
+        assert_eq!(rt; got.status, 0, "at {script}");
+        assert_eq!(rt; got.faults, 0, "at {script}");
+    }
     Ok(())
 }

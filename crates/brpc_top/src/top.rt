@@ -25,7 +25,11 @@ use std::alloc::Global;
 /// calls; `load N` replays that script and writes one line that sums up what the joins tell. These are this project's own
 /// choice. The statuses are 2, the words aren't accepted, 9, memory ran out, and those of the commands.
 pub fn run<S: Source, K: Sink>(alloc: Global, words: &[String], source: &mut S, sink: &mut K) -> u8
-    ensures { IsRun (command_of (map (λ w. string_bytes w) words.now)) source.old source.new sink.old sink.new (IsReplay (S.left source.old) (S.left source.new) (S.faults source.old) (S.faults source.new) (K.held sink.old) (K.held sink.new) (K.faults sink.old) (K.faults sink.new) sink.old sink.new) (IsDecided (S.left source.old)) (λ count. IsWritten (generated count) (K.held sink.old) (K.held sink.new) (K.faults sink.old) (K.faults sink.new) sink.old sink.new) (λ count. IsLoad count (K.held sink.old) (K.held sink.new) (K.faults sink.old) (K.faults sink.new) sink.old sink.new) result }
+    ensures { IsRun (command_of (map (λ w. string_bytes w) words.now)) source.old source.new sink.old sink.new
+        (IsReplay (S.left source.old) (S.left source.new) (S.faults source.old) (S.faults source.new) (K.held sink.old) (K.held sink.new) (K.faults sink.old) (K.faults sink.new) sink.old sink.new)
+        (IsDecided (S.left source.old))
+        (λ count. IsWritten (generated count) (K.held sink.old) (K.held sink.new) (K.faults sink.old) (K.faults sink.new) sink.old sink.new)
+        (λ count. IsLoad count (K.held sink.old) (K.held sink.new) (K.faults sink.old) (K.faults sink.new) sink.old sink.new) result }
 {
     let Ok(command) = read_words(alloc, words) else {
         return Status::NoMemory.number();
@@ -43,7 +47,8 @@ pub fn run<S: Source, K: Sink>(alloc: Global, words: &[String], source: &mut S, 
 /// Statuses: 0, done; 3, the source failed; 4, the sink failed; 5, the script has a bad line, which is named; 9, memory
 /// ran out.
 pub fn run_sim<S: Source, K: Sink>(alloc: Global, source: &mut S, sink: &mut K) -> u8
-    ensures replay { IsReplay (S.left source.old) (S.left source.new) (S.faults source.old) (S.faults source.new) (K.held sink.old) (K.held sink.new) (K.faults sink.old) (K.faults sink.new) sink.old sink.new result }
+    ensures replay { IsReplay (S.left source.old) (S.left source.new) (S.faults source.old) (S.faults source.new)
+        (K.held sink.old) (K.held sink.new) (K.faults sink.old) (K.faults sink.new) sink.old sink.new result }
     ensures decided { IsDecided (S.left source.old) result }
 {
     replay_source(alloc, source, sink).number()
@@ -51,14 +56,15 @@ pub fn run_sim<S: Source, K: Sink>(alloc: Global, source: &mut S, sink: &mut K) 
 
 /// Reads the script, replays it and writes what its joins tell, or its refusal.
 fn replay_source<S: Source, K: Sink>(alloc: Global, source: &mut S, sink: &mut K) -> Status
-    ensures { IsReplay (S.left source.old) (S.left source.new) (S.faults source.old) (S.faults source.new) (K.held sink.old) (K.held sink.new) (K.faults sink.old) (K.faults sink.new) sink.old sink.new (number_of result) }
+    ensures { IsReplay (S.left source.old) (S.left source.new) (S.faults source.old) (S.faults source.new)
+        (K.held sink.old) (K.held sink.new) (K.faults sink.old) (K.faults sink.new) sink.old sink.new (number_of result) }
 {
     let bytes = match read_script_bytes(alloc, source) {
         Ok(bytes) => bytes,
         Err(ReadStop::Fault) => return Status::ReadFault,
         Err(ReadStop::Memory) => return Status::NoMemory,
     };
-    let Ok(output) = output_of(alloc, &bytes) else {
+    let Ok(output) = output_of(alloc, bytes) else {
         return Status::NoMemory;
     };
     match write_all(sink, &output.text) {
@@ -74,12 +80,14 @@ struct Output {
     status: Status,
 }
 
-fn output_of(alloc: Global, bytes: &[u8]) -> Result<Output, NoMemory>
-    ensures text { IfOk result (λ o. o.text.items ≡ output (script mode.Sim bytes.now)) }
-    ensures status { IfOk result (λ o. number_of o.status ≡ status_of (script mode.Sim bytes.now)) }
+/// The bytes are given back before the replay begins, so that it holds nothing twice.
+fn output_of(alloc: Global, bytes: Vec<u8>) -> Result<Output, NoMemory>
+    ensures text { IfOk result (λ o. o.text.items ≡ output (script mode.Sim bytes.items)) }
+    ensures status { IfOk result (λ o. number_of o.status ≡ status_of (script mode.Sim bytes.items)) }
 {
-    match read_script(alloc, Mode::Sim, bytes) {
+    match read_script(alloc, Mode::Sim, &bytes) {
         Ok(script) => {
+            drop(bytes);
             let mut told = Vec::new(alloc);
             replay(alloc, &script, &mut told)?;
             Ok(Output {
@@ -105,7 +113,7 @@ fn told_text_of(alloc: Global, told: &[Told]) -> Result<Vec<u8>, NoMemory>
 {
     let mut text = Vec::new(alloc);
     for line in told {
-        write_told(alloc, line, &mut text)?;
+        write_told(line, &mut text)?;
     }
     Ok(text)
 }

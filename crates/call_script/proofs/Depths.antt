@@ -59,7 +59,8 @@ module _ (depths : List ℕ) (chans : List (Chan MapKind MergeKind)) (are : AreD
   }
 
   -- And with it.
-  pub depth_more : (c : Chan MapKind MergeKind) (d : ℕ) → AreSound 0 chans → IsSound (length chans) c → d ≡ chan_depth (depth chans) (Some c) → AreDepths (take (length chans) depths ++ d ∷ []) (chans ++ c ∷ [])
+  pub depth_more : (c : Chan MapKind MergeKind) (d : ℕ) → AreSound 0 chans → IsSound (length chans) c → d ≡ chan_depth (depth chans) (Some c)
+      → AreDepths (take (length chans) depths ++ d ∷ []) (chans ++ c ∷ [])
   depth_more c d sound one is = record {
     enough = let l = length-taken depths (length chans) are.enough in let m = length-append (take (length chans) depths) (d ∷ []) in let k = length-append chans (c ∷ []) in omega (arith, l, m, k);
     right = λ n less. by n less (nat_lt n (length chans)) refl;
@@ -75,7 +76,8 @@ module _ (depths : List ℕ) (chans : List (Chan MapKind MergeKind)) (are : AreD
       by n less true e =
           let before : n < length chans = grind (arith, nat_tests, e) in
           let l = length-taken depths (length chans) are.enough in
-          found-before (take (length chans) depths) d n (omega (arith, l, before)) ∙ found-taken depths (length chans) n before are.enough ∙ are.right n before ∙ ap Some (sym (same-depth chans c sound n before))
+          found-before (take (length chans) depths) d n (omega (arith, l, before)) ∙ found-taken depths (length chans) n before are.enough
+          ∙ are.right n before ∙ ap Some (sym (same-depth chans c sound n before))
       by n less false e =
           let past : length chans ≤ n = grind (arith, nat_tests, e) in
           let k = length-append chans (c ∷ []) in

@@ -1,5 +1,6 @@
 -- What a reader keeps, after one more of its lines.
-use Rattle.std.proofs.Common.{rules, ◌≡◌, ℕ, ◌+◌, ◌*◌, ◌^◌, ◌<◌, ◌≤◌, ◌==◌, Bool, true, false, cond, subst, nat_lt, List, [], ◌∷◌, ◌++◌, suc, length, length-append, find, map, Option, Some, None, arith, ap, sym, ◌∙◌, refl, append-nil}
+use Rattle.std.proofs.Common.{rules, ◌≡◌, ℕ, ◌+◌, ◌*◌, ◌^◌, ◌<◌, ◌≤◌, ◌==◌, Bool, true, false, cond, subst, nat_lt, List, [], ◌∷◌, ◌++◌, suc, length, length-append, find, map, Option, Some, None}
+use Rattle.std.proofs.Common.{arith, ap, sym, ◌∙◌, refl, append-nil}
 use Rattle.std.specs.Prelude.{nat_eq, All}
 use Rattle.std.specs.Option.{option_map}
 use Rattle.std.specs.List.{IsDistinct, list_any}
@@ -143,7 +144,8 @@ more-servers servers more first [] le h = tt
 more-servers servers more first (c ∷ chans) le h = (one c h.0, more-servers servers more (suc first) chans le h.1)
   where
     one : (c : Chan MapKind MergeKind) → IsChan servers first c → IsChan more first c
-    one (chan.Leaf leaf) l = record { few_retries = l.few_retries; backup = l.backup; timeout = l.timeout; some_server = l.some_server; known_servers = λ k d less. (let below = l.known_servers k d less in omega (arith, le, below)) }
+    one (chan.Leaf leaf) l =
+        record { few_retries = l.few_retries; backup = l.backup; timeout = l.timeout; some_server = l.some_server; known_servers = λ k d less. (let below = l.known_servers k d less in omega (arith, le, below)) }
     one (chan.Par par) p = p
     one (chan.Sel sel) p = p
     one (chan.Part part) p = record {
@@ -159,9 +161,11 @@ more-servers servers more first (c ∷ chans) le h = (one c h.0, more-servers se
       timeout = p.timeout;
     }
 
-one-chan : (servers first : ℕ) (chans : List (Chan MapKind MergeKind)) (c : Chan MapKind MergeKind) → AreChans servers first chans → IsChan servers (first + length chans) c → AreChans servers first (chans ++ c ∷ [])
+one-chan : (servers first : ℕ) (chans : List (Chan MapKind MergeKind)) (c : Chan MapKind MergeKind) → AreChans servers first chans
+    → IsChan servers (first + length chans) c → AreChans servers first (chans ++ c ∷ [])
 one-chan servers first [] c h one = (let same : first + 0 ≡ first = omega arith in subst (λ n. IsChan servers n c) same one, tt)
-one-chan servers first (d ∷ chans) c h one = (h.0, one-chan servers (suc first) chans c h.1 (let same : first + suc (length chans) ≡ suc first + length chans = omega arith in subst (λ n. IsChan servers n c) same one))
+one-chan servers first (d ∷ chans) c h one =
+    (h.0, one-chan servers (suc first) chans c h.1 (let same : first + suc (length chans) ≡ suc first + length chans = omega arith in subst (λ n. IsChan servers n c) same one))
 
 push-chan : (servers : ℕ) (chans : List (Chan MapKind MergeKind)) (c : Chan MapKind MergeKind) → AreChans servers 0 chans → IsChan servers (length chans) c → AreChans servers 0 (chans ++ c ∷ [])
 push-chan servers chans c h one = one-chan servers 0 chans c h (let same : length chans ≡ 0 + length chans = omega arith in subst (λ n. IsChan servers n c) same one)
@@ -170,7 +174,8 @@ more-serves : (servers more : ℕ) (serves : List Serve) → servers ≤ more �
 more-serves servers more serves le h k d less = let one = h k d less in record { known = let below = one.known in omega (arith, le, below); directions = one.directions }
 
 -- One more server.
-pub within_server : (slots : Option ℕ) (names servers : List (List ℕ)) (server : List ℕ) (chans : List (Chan MapKind MergeKind)) (serves : List Serve) (acts : List Act) (calls : List (ℕ × ℕ)) (events weight : ℕ)
+pub within_server : (slots : Option ℕ) (names servers : List (List ℕ)) (server : List ℕ) (chans : List (Chan MapKind MergeKind))
+    (serves : List Serve) (acts : List Act) (calls : List (ℕ × ℕ)) (events weight : ℕ)
     → IsWithin slots names servers chans serves acts calls events weight → length servers < 16 → IsWithin slots names (servers ++ server ∷ []) chans serves acts calls events weight
 within_server slots names servers server chans serves acts calls events weight w room =
     let l = length-append servers (server ∷ []) in
@@ -195,7 +200,8 @@ within_server slots names servers server chans serves acts calls events weight w
     }
 
 -- One more channel, whose name comes next.
-pub within_unnamed : (slots : Option ℕ) (names servers : List (List ℕ)) (chans : List (Chan MapKind MergeKind)) (c : Chan MapKind MergeKind) (serves : List Serve) (acts : List Act) (calls : List (ℕ × ℕ)) (events weight : ℕ)
+pub within_unnamed : (slots : Option ℕ) (names servers : List (List ℕ)) (chans : List (Chan MapKind MergeKind)) (c : Chan MapKind MergeKind)
+    (serves : List Serve) (acts : List Act) (calls : List (ℕ × ℕ)) (events weight : ℕ)
     → IsWithin slots names servers chans serves acts calls events weight → IsChan (length servers) (length chans) c → chan_depth (depth chans) (Some c) ≤ 8
     → IsWithin slots names servers (chans ++ c ∷ []) serves acts calls events weight
 within_unnamed slots names servers chans c serves acts calls events weight w channel shallow =
@@ -237,7 +243,8 @@ within_unnamed slots names servers chans c serves acts calls events weight w cha
         omega (arith, here, last, shallow)
 
 -- And its name.
-pub within_named : (slots : Option ℕ) (names servers : List (List ℕ)) (name : List ℕ) (chans : List (Chan MapKind MergeKind)) (serves : List Serve) (acts : List Act) (calls : List (ℕ × ℕ)) (events weight : ℕ)
+pub within_named : (slots : Option ℕ) (names servers : List (List ℕ)) (name : List ℕ) (chans : List (Chan MapKind MergeKind))
+    (serves : List Serve) (acts : List Act) (calls : List (ℕ × ℕ)) (events weight : ℕ)
     → IsWithin slots names servers chans serves acts calls events weight → length names < 1000 → length names < length chans
     → IsWithin slots (names ++ name ∷ []) servers chans serves acts calls events weight
 within_named slots names servers name chans serves acts calls events weight w room fewer =
@@ -271,7 +278,8 @@ event-narrow chans (Tick at) h = tt
 event-narrow chans (Join call) h = tt
 
 -- One more line that begins no call.
-pub within_event : (slots : Option ℕ) (names servers : List (List ℕ)) (chans : List (Chan MapKind MergeKind)) (serves : List Serve) (acts : List Act) (act : Act) (calls : List (ℕ × ℕ)) (events weight : ℕ)
+pub within_event : (slots : Option ℕ) (names servers : List (List ℕ)) (chans : List (Chan MapKind MergeKind)) (serves : List Serve)
+    (acts : List Act) (act : Act) (calls : List (ℕ × ℕ)) (events weight : ℕ)
     → IsWithin slots names servers chans serves acts calls events weight → events < 400000 → IsMoment act → IsAct (length chans) act → call_of act ≡ []
     → IsWithin slots names servers chans serves (acts ++ act ∷ []) calls (events + 1) weight
 within_event slots names servers chans serves acts act calls events weight w room moment fit event =
@@ -297,7 +305,8 @@ within_event slots names servers chans serves acts act calls events weight w roo
     }
 
 -- One more call.
-pub within_call : (slots : Option ℕ) (names servers : List (List ℕ)) (chans : List (Chan MapKind MergeKind)) (serves : List Serve) (acts : List Act) (calls : List (ℕ × ℕ)) (at call chan : ℕ) (text : List ℕ) (events weight more : ℕ)
+pub within_call : (slots : Option ℕ) (names servers : List (List ℕ)) (chans : List (Chan MapKind MergeKind)) (serves : List Serve)
+    (acts : List Act) (calls : List (ℕ × ℕ)) (at call chan : ℕ) (text : List ℕ) (events weight more : ℕ)
     → IsWithin slots names servers chans serves acts calls events weight → length calls < 100000 → at < 2 ^ 53 → chan_of acts call ≡ None → chan < length names → length text ≤ 60000
     → IsNarrow (plan chans chan call) → more ≡ call_weight chans chan call text → weight + more ≤ 2 ^ 30
     → IsWithin slots names servers chans serves (acts ++ Call at call chan text ∷ []) (calls ++ (call, chan) ∷ []) events (weight + more)
@@ -324,4 +333,5 @@ within_call slots names servers chans serves acts calls at call chan text events
     }
   where
     called_after : (acts : List Act) (at call chan : ℕ) (text : List ℕ) → called (acts ++ Call at call chan text ∷ []) ≡ called acts ++ call ∷ []
-    called_after acts at call chan text = numbers (acts ++ Call at call chan text ∷ []) ∙ ap (λ (cs : List (ℕ × ℕ)). map (λ c. c.0) cs) (calls_after acts (Call at call chan text)) ∙ map-append (λ c. c.0) (calls_of acts) ((call, chan) ∷ []) ∙ ap (λ (ns : List ℕ). ns ++ call ∷ []) (sym (numbers acts))
+    called_after acts at call chan text = numbers (acts ++ Call at call chan text ∷ []) ∙ ap (λ (cs : List (ℕ × ℕ)). map (λ c. c.0) cs) (calls_after acts (Call at call chan text))
+        ∙ map-append (λ c. c.0) (calls_of acts) ((call, chan) ∷ []) ∙ ap (λ (ns : List ℕ). ns ++ call ∷ []) (sym (numbers acts))

@@ -1,5 +1,6 @@
 -- Tags that are read and numbered one after the other, and the parts that they name.
-use Rattle.std.proofs.Common.{◌≡◌, ℕ, zero, suc, ◌+◌, ◌-◌, ◌<◌, ◌≤◌, ◌==◌, ◌&&◌, ◌||◌, Bool, true, false, cond, List, [], ◌∷◌, ◌++◌, length, map, filter, drop, get_or, unwrap_or, Option, Some, None, is_none, arith, refl, ap, sym, ◌∙◌, append_assoc}
+use Rattle.std.proofs.Common.{◌≡◌, ℕ, zero, suc, ◌+◌, ◌-◌, ◌<◌, ◌≤◌, ◌==◌, ◌&&◌, ◌||◌, Bool, true, false, cond, List, [], ◌∷◌, ◌++◌, length, map, filter, drop, get_or, unwrap_or, Option, Some, None}
+use Rattle.std.proofs.Common.{is_none, arith, refl, ap, sym, ◌∙◌, append_assoc}
 use Rattle.std.specs.Prelude.{nat_le, nat_lt, Ok, Err}
 use Rattle.rpc_model.specs.declared.chan.Chan.TheVariants as chan
 use Rattle.rpc_model.specs.declared.script.Cause.TheVariants.{MissingPart, TooMany}
@@ -31,7 +32,8 @@ tagged_all servers named i le = at_drop_all (λ (ts : List CodeTag). mention_all
 pub tagged_over : (servers : List (List ℕ)) (named : List CodeTag) (i : ℕ) (d : CodeTag) → i < length named → false ≡ nat_le (length (mention servers (get_or named i d).name.now)) 16
     → false ≡ nat_le (length (mention_all servers (names_of (named_all (drop i named))))) 16
 tagged_over servers named i d h over =
-    rw (tagged_next servers named i d h) (let more = mention_all_grows (mention servers (get_or named i d).name.now) (names_of (named_all (drop (i + 1) named))) in grind (arith, nat_tests, over, more))
+    rw (tagged_next servers named i d h) (let more = mention_all_grows (mention servers (get_or named i d).name.now) (names_of (named_all (drop (i + 1) named))) in
+    grind (arith, nat_tests, over, more))
 
 pub tagged_some : (servers : List (List ℕ)) (named : List CodeTag) → 1 ≤ length named → 1 ≤ length (mention_all servers (names_of (named_all named)))
 tagged_some servers [] h = absurd (omega arith)
@@ -40,7 +42,8 @@ tagged_some servers (t ∷ named) h = let one = mention_some servers t.name.now 
 -- ---- one more number
 
 pub tag_numbered : (servers : List (List ℕ)) (named : List CodeTag) (tags : List Tag) (i : ℕ) (d : CodeTag) → i < length named
-    → (tags ++ (record { server = unwrap_or (index_of servers (get_or named i d).name.now) 0; part = (get_or named i d).part; of = (get_or named i d).of }) ∷ []) ++ tags_of servers (named_all (drop (i + 1) named)) ≡ tags ++ tags_of servers (named_all (drop i named))
+    → (tags ++ (record { server = unwrap_or (index_of servers (get_or named i d).name.now) 0; part = (get_or named i d).part; of = (get_or named i d).of }) ∷ [])
+    ++ tags_of servers (named_all (drop (i + 1) named)) ≡ tags ++ tags_of servers (named_all (drop i named))
 tag_numbered servers named tags i d h =
     append_assoc tags _ (tags_of servers (named_all (drop (i + 1) named))) ∙ sym (at_drop_more (λ (ts : List CodeTag). tags ++ tags_of servers (named_all ts)) named i d h)
 
@@ -52,19 +55,24 @@ module _ (servers : List (List ℕ)) (named : List NamedTag) (parts : ℕ) where
   some-server part later (t ∷ tags) = by (t.part == part && t.of == parts) (some-server part later tags)
     where
       by : (b : Bool) → or_missing part (servers_of (tags_of servers tags) parts part) later ≡ cond (has_tag tags parts part) later (Some part)
-          → or_missing part (map (λ (x : Tag). x.server) (cond b (record { server = unwrap_or (index_of servers t.name) 0; part = t.part; of = t.of } ∷ filter (λ (x : Tag). x.part == part && x.of == parts) (tags_of servers tags)) (filter (λ (x : Tag). x.part == part && x.of == parts) (tags_of servers tags)))) later
+          → or_missing part (map (λ (x : Tag). x.server)
+          (cond b (record { server = unwrap_or (index_of servers t.name) 0; part = t.part; of = t.of } ∷ filter (λ (x : Tag). x.part == part && x.of == parts)
+          (tags_of servers tags)) (filter (λ (x : Tag). x.part == part && x.of == parts) (tags_of servers tags)))) later
           ≡ cond (b || has_tag tags parts part) later (Some part)
       by true h = refl
       by false h = h
 
   -- No part is missing where each has a tag.
-  pub none_missing : (chan : PartChan MapKind MergeKind) → chan.tags ≡ tags_of servers named → chan.parts ≡ parts → (first count : ℕ) → is_none (missing_from chan first count) ≡ lacks_none named first count parts
+  pub none_missing : (chan : PartChan MapKind MergeKind) → chan.tags ≡ tags_of servers named → chan.parts ≡ parts → (first count : ℕ)
+      → is_none (missing_from chan first count) ≡ lacks_none named first count parts
   none_missing chan tags are first zero = refl
   none_missing chan tags are first (suc count) =
-      ap is_none (ap (λ (ts : List Tag). or_missing first (servers_of ts chan.parts first) (missing_from chan (first + 1) count)) tags ∙ ap (λ (n : ℕ). or_missing first (servers_of (tags_of servers named) n first) (missing_from chan (first + 1) count)) are ∙ some-server first (missing_from chan (first + 1) count) named)
+      ap is_none (ap (λ (ts : List Tag). or_missing first (servers_of ts chan.parts first) (missing_from chan (first + 1) count)) tags
+      ∙ ap (λ (n : ℕ). or_missing first (servers_of (tags_of servers named) n first) (missing_from chan (first + 1) count)) are ∙ some-server first (missing_from chan (first + 1) count) named)
       ∙ by (has_tag named parts first) (none_missing chan tags are (first + 1) count)
     where
-      by : (b : Bool) → is_none (missing_from chan (first + 1) count) ≡ lacks_none named (first + 1) count parts → is_none (cond b (missing_from chan (first + 1) count) (Some first)) ≡ (b && lacks_none named (first + 1) count parts)
+      by : (b : Bool) → is_none (missing_from chan (first + 1) count) ≡ lacks_none named (first + 1) count parts
+          → is_none (cond b (missing_from chan (first + 1) count) (Some first)) ≡ (b && lacks_none named (first + 1) count parts)
       by true h = h
       by false h = refl
 
@@ -99,7 +107,8 @@ module _ (before : Before) (name : List ℕ) (named : List NamedTag) (part : Par
   pub part_full : lacks_none named 0 part.parts part.parts ≡ true → nat_lt (length before.names) 1000 ≡ false → with_part before name named part ≡ Err TooMany
   part_full all full = rw (missing-is, all, full) refl
 
-  pub part_over : lacks_none named 0 part.parts part.parts ≡ true → nat_lt (length before.names) 1000 ≡ true → nat_le (length (mention_all before.servers (names_of named))) 16 ≡ false → with_part before name named part ≡ Err TooMany
+  pub part_over : lacks_none named 0 part.parts part.parts ≡ true → nat_lt (length before.names) 1000 ≡ true
+      → nat_le (length (mention_all before.servers (names_of named))) 16 ≡ false → with_part before name named part ≡ Err TooMany
   part_over all room over = rw (missing-is, all, room, over) refl
 
   pub part_taken : lacks_none named 0 part.parts part.parts ≡ true → nat_lt (length before.names) 1000 ≡ true → nat_le (length (mention_all before.servers (names_of named))) 16 ≡ true

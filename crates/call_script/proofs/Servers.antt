@@ -1,5 +1,6 @@
 -- The servers that lines mention, and their numbers.
-use Rattle.std.proofs.Common.{◌≡◌, ℕ, ◌+◌, ◌<◌, ◌≤◌, false, List, [], ◌∷◌, ◌++◌, length, length-append, map, drop, get_or, unwrap_or, Option, Some, None, Bor, bytes_eq, arith, sym, ◌∙◌, refl, append_assoc}
+use Rattle.std.proofs.Common.{◌≡◌, ℕ, ◌+◌, ◌<◌, ◌≤◌, false, List, [], ◌∷◌, ◌++◌, length, length-append, map, drop, get_or, unwrap_or, Option, Some, None, Bor, bytes_eq, arith, sym, ◌∙◌, refl}
+use Rattle.std.proofs.Common.{append_assoc}
 use Rattle.std.specs.Prelude.{nat_le}
 use Rattle.std.proofs.lemmas.Bool.Decides.{nat_tests}
 use Rattle.std.proofs.lemmas.List.{at_drop_more, at_drop_all}
@@ -54,7 +55,8 @@ number_below servers name (Some at) e h = index_below servers name at (sym e)
 
 -- One more number is found.
 pub numbered_next : (servers : List (List ℕ)) (names : List (Bor (List ℕ))) (numbers : List ℕ) (i : ℕ) (d : Bor (List ℕ)) → i < length names
-    → (numbers ++ unwrap_or (index_of servers (get_or names i d).now) 0 ∷ []) ++ numbers_of servers (map (λ n. n.now) (drop (i + 1) names)) ≡ numbers ++ numbers_of servers (map (λ n. n.now) (drop i names))
+    → (numbers ++ unwrap_or (index_of servers (get_or names i d).now) 0 ∷ []) ++ numbers_of servers (map (λ n. n.now) (drop (i + 1) names)) ≡ numbers
+    ++ numbers_of servers (map (λ n. n.now) (drop i names))
 numbered_next servers names numbers i d h =
     append_assoc numbers (unwrap_or (index_of servers (get_or names i d).now) 0 ∷ []) (numbers_of servers (map (λ n. n.now) (drop (i + 1) names)))
     ∙ sym (at_drop_more (λ (ns : List (Bor (List ℕ))). numbers ++ numbers_of servers (map (λ n. n.now) ns)) names i d h)

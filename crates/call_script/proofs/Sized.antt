@@ -26,7 +26,8 @@ by-size : (size : Option Size) (p : Plan MapKind MergeKind) → width p ≡ node
 by-size None p w h = grind (arith, nat_tests, w, h)
 by-size (Some size) p w h = ((let few = h.2 in grind (arith, nat_tests, w, few)), h.1, omega (arith, h.1, h.2))
 
-pub sized : (chans : List (Chan MapKind MergeKind)) (number call : ℕ) (size : Option Size) → AreSound 0 chans → number < length chans → IsSizeOf chans number call size → IsSized size (plan chans number call)
+pub sized : (chans : List (Chan MapKind MergeKind)) (number call : ℕ) (size : Option Size) → AreSound 0 chans → number < length chans
+    → IsSizeOf chans number call size → IsSized size (plan chans number call)
 unfolding IsSizeOf
 sized chans number call size sound there h =
     let p = plan-there chans call sound number there in
@@ -48,7 +49,8 @@ few-nodes (Some p) h = let w = width-is p in omega (arith, w, h)
 abbrev pub IsCall : List (Chan MapKind MergeKind) → ℕ → ℕ → Type 0
 IsCall chans chan call = (chan < length chans) × IsNarrow (plan chans chan call)
 
-found-call : (chans : List (Chan MapKind MergeKind)) (acts : List Act) (call chan : ℕ) → All (IsAct (length chans)) acts → All (BeginsNarrow chans) acts → chan_of acts call ≡ Some chan → IsCall chans chan call
+found-call : (chans : List (Chan MapKind MergeKind)) (acts : List Act) (call chan : ℕ) → All (IsAct (length chans)) acts
+    → All (BeginsNarrow chans) acts → chan_of acts call ≡ Some chan → IsCall chans chan call
 found-call chans [] call chan fit narrow e = absurd cc
 found-call chans (Call at c number text ∷ acts) call chan fit narrow e =
     by (c == call) refl e (λ h. found-call chans acts call chan (λ k d less. fit (suc k) d (omega (arith, less))) (λ k d less. narrow (suc k) d (omega (arith, less))) h)
@@ -59,22 +61,27 @@ found-call chans (Call at c number text ∷ acts) call chan fit narrow e =
     first-narrow : IsNarrow (plan chans number c)
     first-narrow = narrow 0 (Call at c number text) (omega arith)
 
-    by : (b : Bool) → (c == call) ≡ b → option_map (λ x. x.1) (cond b (Some (c, number)) (find (λ x. x.0 == call) (calls_of acts))) ≡ Some chan → (chan_of acts call ≡ Some chan → IsCall chans chan call) → IsCall chans chan call
+    by : (b : Bool) → (c == call) ≡ b → option_map (λ x. x.1) (cond b (Some (c, number)) (find (λ x. x.0 == call) (calls_of acts))) ≡ Some chan
+        → (chan_of acts call ≡ Some chan → IsCall chans chan call) → IsCall chans chan call
     by true same h others =
         let number_is : number ≡ chan = cc in
         let call_is : c ≡ call = grind (arith, nat_tests, same) in
         subst (λ n. IsCall chans n call) number_is (first-fit.0, subst (λ m. IsNarrow (plan chans number m)) call_is first-narrow)
     by false other h others = others h
 found-call chans (Cancel at c ∷ acts) call chan fit narrow e = found-call chans acts call chan (λ k d less. fit (suc k) d (omega (arith, less))) (λ k d less. narrow (suc k) d (omega (arith, less))) e
-found-call chans (Reply at c node attempt code text ∷ acts) call chan fit narrow e = found-call chans acts call chan (λ k d less. fit (suc k) d (omega (arith, less))) (λ k d less. narrow (suc k) d (omega (arith, less))) e
-found-call chans (Lose at c node attempt code ∷ acts) call chan fit narrow e = found-call chans acts call chan (λ k d less. fit (suc k) d (omega (arith, less))) (λ k d less. narrow (suc k) d (omega (arith, less))) e
+found-call chans (Reply at c node attempt code text ∷ acts) call chan fit narrow e =
+    found-call chans acts call chan (λ k d less. fit (suc k) d (omega (arith, less))) (λ k d less. narrow (suc k) d (omega (arith, less))) e
+found-call chans (Lose at c node attempt code ∷ acts) call chan fit narrow e =
+    found-call chans acts call chan (λ k d less. fit (suc k) d (omega (arith, less))) (λ k d less. narrow (suc k) d (omega (arith, less))) e
 found-call chans (Tick at ∷ acts) call chan fit narrow e = found-call chans acts call chan (λ k d less. fit (suc k) d (omega (arith, less))) (λ k d less. narrow (suc k) d (omega (arith, less))) e
 found-call chans (Join c ∷ acts) call chan fit narrow e = found-call chans acts call chan (λ k d less. fit (suc k) d (omega (arith, less))) (λ k d less. narrow (suc k) d (omega (arith, less))) e
 
-pub call_there : (chans : List (Chan MapKind MergeKind)) (acts : List Act) (call chan : ℕ) → All (IsAct (length chans)) acts → All (BeginsNarrow chans) acts → chan_of acts call ≡ Some chan → chan < length chans
+pub call_there : (chans : List (Chan MapKind MergeKind)) (acts : List Act) (call chan : ℕ) → All (IsAct (length chans)) acts
+    → All (BeginsNarrow chans) acts → chan_of acts call ≡ Some chan → chan < length chans
 call_there chans acts call chan fit narrow e = (found-call chans acts call chan fit narrow e).0
 
-pub call_few : (chans : List (Chan MapKind MergeKind)) (acts : List Act) (call chan : ℕ) → All (IsAct (length chans)) acts → All (BeginsNarrow chans) acts → chan_of acts call ≡ Some chan → nodes_at chans call chan ≤ 1024
+pub call_few : (chans : List (Chan MapKind MergeKind)) (acts : List Act) (call chan : ℕ) → All (IsAct (length chans)) acts
+    → All (BeginsNarrow chans) acts → chan_of acts call ≡ Some chan → nodes_at chans call chan ≤ 1024
 call_few chans acts call chan fit narrow e = few-nodes (plan chans chan call) (found-call chans acts call chan fit narrow e).1
 
 -- ---- its attempts

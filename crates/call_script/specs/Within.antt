@@ -17,7 +17,8 @@ abbrev pub AreSlots : Option ℕ → Type 0
 AreSlots None = Unit {0}
 AreSlots (Some slots) = (1 ≤ slots) × (slots ≤ SLOT_LIMIT)
 
-pub record IsWithin (slots : Option ℕ) (names servers : List (List ℕ)) (chans : List (Chan MapKind MergeKind)) (serves : List Serve) (acts : List Act) (calls : List (ℕ × ℕ)) (events weight : ℕ) : Type 0 where
+pub record IsWithin (slots : Option ℕ) (names servers : List (List ℕ)) (chans : List (Chan MapKind MergeKind)) (serves : List Serve)
+    (acts : List Act) (calls : List (ℕ × ℕ)) (events weight : ℕ) : Type 0 where
   pub few_slots : AreSlots slots
   pub few_channels : length names ≤ CHANNEL_LIMIT
   pub named : length names ≤ length chans

@@ -4,28 +4,27 @@ ghost use Rattle.std.specs.Prelude.{◌≡◌, ◌==◌, ◌↔◌, IsTrue, [], 
 ghost use Rattle.std.specs.Option.{option_map};
 
 use crate::fault::LineFault;
+use call_numbers::Numbers;
 use std::alloc::Global;
-use std::collections::BTreeMap;
 use std::marker::Model;
 
-/// Each call's number with its channel, in the order of their lines. A call is found by its number in a time that grows
-/// with the logarithm of their count.
-// A tree and not a hash table, since whoever writes a script chooses its numbers and could make a fixed hash collide.
+/// Each call's number with its channel, in the order of their lines. A call is found by its number at once where the
+/// numbers follow each other, and else in a time that grows with the logarithm of their count.
 #[derive(Drop)]
 pub(crate) struct Calls {
     calls: Vec<(u32, u32)>,
-    places: BTreeMap<u32, usize>,
+    numbers: Numbers,
 }
 
 impl Model for Calls {
     ghost use Rattle.std.specs.Prelude.{ℕ, List};
-    ghost use Rattle.call_script.specs.Places.{FindsCalls};
+    ghost use Rattle.call_script.specs.Places.{AreNumbers};
 
     ghost Value = { List (ℕ × ℕ) };
 
     ghost view = { λ c. c.calls.items };
 
-    ghost invariant = { λ c. FindsCalls c.places c.calls.items };
+    ghost invariant = { λ c. AreNumbers c.numbers c.calls.items };
 }
 
 impl Calls {
@@ -34,7 +33,7 @@ impl Calls {
     {
         Calls {
             calls: Vec::new(alloc),
-            places: BTreeMap::new(alloc),
+            numbers: Numbers::new(alloc),
         }
     }
 
@@ -54,7 +53,7 @@ impl Calls {
     pub(crate) fn chan_of(&self, number: u32) -> Option<u32>
         ensures { result ≡ option_map (λ c. c.1) (find (λ c. c.0 == number) self.now) }
     {
-        let place = *self.places.get(&number)?;
+        let place = self.numbers.place_of(number)?;
         Some(self.calls[place].1)
     }
 
@@ -65,10 +64,9 @@ impl Calls {
         ensures same { OnErr result (self.new ≡ self.old) }
         ensures cause { OnErr result (result ≡ Err LineFault.Memory) }
     {
-        let place = self.calls.len();
         self.calls.push((number, chan))?;
-        match self.places.insert(number, place) {
-            Ok(_) => Ok(()),
+        match self.numbers.push(number) {
+            Ok(()) => Ok(()),
             Err(_) => {
                 self.calls.pop();
                 Err(LineFault::Memory)

@@ -228,9 +228,7 @@ fn texts(rt: HostRuntime) -> Result<(), Fail> {
         Told::Full(5),
         Told::Gone(6),
     ] {
-        write_told(alloc, &told, &mut text)
-            .ok()
-            .ok_or("there is memory")?;
+        write_told(&told, &mut text).ok().ok_or("there is memory")?;
     }
     write_refusal(alloc, 7, Cause::TooDeep, &mut text)
         .ok()

@@ -16,7 +16,7 @@ use std::alloc::Global;
 ///
 /// A line is `C ok ATTEMPTS TEXT`, `C fail CODE ATTEMPTS`, `C open`, `C full` or `C gone`, with the call's number first,
 /// the empty text as a dash, and a newline behind it. The lines are this project's own choice.
-pub fn write_told(alloc: Global, told: &Told, to: &mut Vec<u8>) -> Result<(), NoMemory>
+pub fn write_told(told: &Told, to: &mut Vec<u8>) -> Result<(), NoMemory>
     ensures line { OnOk result (to.new.items ≡ to.old.items ++ told_line told.now) }
     ensures err { OnErr result (to.new.items ≡ to.old.items) }
 {

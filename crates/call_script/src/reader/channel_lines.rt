@@ -11,7 +11,7 @@ ghost use Rattle.rpc_model.specs.declared.chan.Chan.TheVariants as chan;
 ghost use Rattle.call_script.specs.Judged.{Judged, Gives};
 
 use super::Reader;
-use crate::cut::cut;
+use crate::cut::{Pieces, cut};
 use crate::fault::LineFault;
 use crate::words::{is_name, number_option, wait_option};
 use rpc_base::List;
@@ -120,7 +120,10 @@ impl Reader {
         requires few_retries { retry ≤ 100 }
         requires backup { IsWait backup }
         requires timeout { IsWait timeout }
-        ensures leaf { OnOk result (self.new ≡ record self.old { names = self.old.names ++ name.now ∷ []; chans = self.old.chans ++ chan.Leaf (record { servers = spec.numbers_of self.old.servers (map (λ n. n.now) names.now); retry = retry; backup = backup; timeout = timeout }) ∷ [] }) }
+        ensures leaf { OnOk result (self.new ≡ record self.old {
+          names = self.old.names ++ name.now ∷ [];
+          chans = self.old.chans ++ chan.Leaf (record { servers = spec.numbers_of self.old.servers (map (λ n. n.now) names.now); retry = retry; backup = backup; timeout = timeout }) ∷ [];
+        }) }
         ensures cause { OnErr result (result ≡ Err LineFault.Memory) }
     {
         let servers = self.server_numbers(names)?;
@@ -167,7 +170,7 @@ impl Reader {
 
 /// 1 to 16 names with commas between them.
 #[tactic(auto, unfolding(rpc_model::specs::Words::server_names))]
-fn server_names<'a>(alloc: Global, word: &'a [u8]) -> Result<Vec<&'a [u8]>, LineFault>
+fn server_names<'a>(alloc: Global, word: &'a [u8]) -> Result<Pieces<'a>, LineFault>
     ensures names { Gives (λ v. map (λ n. n.now) v.items) result (words_spec.server_names word.now) }
     ensures some { IfOk result (λ v. 1 ≤ length v.items) }
 {

@@ -77,7 +77,8 @@ impl Reader {
     ) -> Result<(), LineFault>
         requires some { 1 ≤ length words.now }
         requires few { length words.now ≤ 1000 }
-        ensures { Judged result self.new (spec.part_line self.old name.now parts.now options.entry.retry.now options.entry.backup.now options.entry.fail.now options.entry.ok.now options.entry.timeout.now kinds.now (map (λ w. w.now) words.now)) }
+        ensures { Judged result self.new (spec.part_line self.old name.now parts.now options.entry.retry.now options.entry.backup.now
+            options.entry.fail.now options.entry.ok.now options.entry.timeout.now kinds.now (map (λ w. w.now) words.now)) }
     {
         self.check_new_name(name)?;
         let parts = number(parts, 1, PART_LIMIT)?;
@@ -114,7 +115,8 @@ impl Reader {
         requires few { length named.now ≤ 1000 }
         requires tags { All IsTag named.now }
         requires part { IsBarePart bare }
-        ensures { Judged result self.new (spec.with_part self.old name.now (named_all named.now) (record bare { tags = spec.tags_of (spec.mention_all self.old.servers (spec.names_of (named_all named.now))) (named_all named.now) })) }
+        ensures { Judged result self.new (spec.with_part self.old name.now (named_all named.now)
+            (record bare { tags = spec.tags_of (spec.mention_all self.old.servers (spec.names_of (named_all named.now))) (named_all named.now) })) }
     {
         if !has_all_parts(named, bare.parts) {
             return Err(LineFault::Refused(Cause::MissingPart));

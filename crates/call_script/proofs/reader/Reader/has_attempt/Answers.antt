@@ -28,11 +28,14 @@ retry_at-requires-clause-few c =
 pub returns-in-Some : goal.returns-in-Some
 returns-in-Some c =
     let chans = c.self.inside.chans in
-    let found : Some c.in-Some.retry ≡ retry_in chans c.args.chan c.args.call 0 c.args.node = sym c.in-Some.is ∙ c.retry_at.ensures.retry ∙ ap (λ z. retry_in z c.args.chan c.args.call 0 c.args.node) c.as_slice.ensures in
-    ap (λ o. may_issue o c.args.attempt) found ∙ attempt_is chans c.args.chan c.args.call c.args.node c.args.attempt ∙ ap (λ z. has_attempt (plan z.chans c.args.chan c.args.call) c.args.node c.args.attempt) c.self.view_is
+    let found : Some c.in-Some.retry ≡ retry_in chans c.args.chan c.args.call 0 c.args.node = sym c.in-Some.is ∙ c.retry_at.ensures.retry
+    ∙ ap (λ z. retry_in z c.args.chan c.args.call 0 c.args.node) c.as_slice.ensures in
+    ap (λ o. may_issue o c.args.attempt) found ∙ attempt_is chans c.args.chan c.args.call c.args.node c.args.attempt
+    ∙ ap (λ z. has_attempt (plan z.chans c.args.chan c.args.call) c.args.node c.args.attempt) c.self.view_is
 
 pub returns-in-None : goal.returns-in-None
 returns-in-None c =
     let chans = c.self.inside.chans in
     let found = sym c.in-None.is ∙ c.retry_at.ensures.retry ∙ ap (λ z. retry_in z c.args.chan c.args.call 0 c.args.node) c.as_slice.ensures in
-    ap (λ o. may_issue o c.args.attempt) found ∙ attempt_is chans c.args.chan c.args.call c.args.node c.args.attempt ∙ ap (λ z. has_attempt (plan z.chans c.args.chan c.args.call) c.args.node c.args.attempt) c.self.view_is
+    ap (λ o. may_issue o c.args.attempt) found ∙ attempt_is chans c.args.chan c.args.call c.args.node c.args.attempt
+    ∙ ap (λ z. has_attempt (plan z.chans c.args.chan c.args.call) c.args.node c.args.attempt) c.self.view_is

@@ -31,5 +31,6 @@ invariant_of-self-2 c =
     let more = length-append c.self.inside.chans (c.args.chan ∷ []) in
     let named = c.self.invariant.named in
     rw (c.in_ok-push-2.ensures.name, c.in_ok-push.ensures.channel)
-    (within_named _ _ _ c.args.name.now (c.self.inside.chans ++ c.args.chan ∷ []) _ _ _ _ _ (within_unnamed _ _ _ c.self.inside.chans c.args.chan _ _ _ _ _ c.self.invariant chan (omega (arith, same, is, shallow))) room
+    (within_named _ _ _ c.args.name.now (c.self.inside.chans ++ c.args.chan ∷ []) _ _ _ _ _
+    (within_unnamed _ _ _ c.self.inside.chans c.args.chan _ _ _ _ _ c.self.invariant chan (omega (arith, same, is, shallow))) room
     (omega (arith, more, named)))

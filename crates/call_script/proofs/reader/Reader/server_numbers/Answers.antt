@@ -13,5 +13,6 @@ loop-name-preserved c =
     let pushed : c.push.new.self.items ≡ c.loop-name.numbers.items ++ number ∷ [] = search rules in
     rw pushed (record {
       rest = numbered_next c.args.self.now.servers c.args.names.now c.loop-name.numbers.items c.loop-name.name-index none c.loop-name-test.true ∙ c.loop-name.invariant.rest;
-      below = All-push (λ n. n < length c.args.self.now.servers) c.loop-name.numbers.items number c.loop-name.invariant.below (number_below c.args.self.now.servers name (index_of c.args.self.now.servers name) refl c.requires);
+      below = All-push (λ n. n < length c.args.self.now.servers) c.loop-name.numbers.items number c.loop-name.invariant.below
+          (number_below c.args.self.now.servers name (index_of c.args.self.now.servers name) refl c.requires);
     })

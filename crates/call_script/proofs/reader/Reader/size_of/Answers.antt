@@ -15,5 +15,6 @@ pub returns : goal.returns
 returns c =
     let chans = c.self.inside.chans in
     let there : c.args.chan < length chans = let few = subst (λ z. c.args.chan < length z.names) (sym c.self.view_is) c.requires in let named = c.self.invariant.named in omega (arith, few, named) in
-    let all = sized chans c.args.chan c.args.call c.size_of.result (chans-sound (length c.self.inside.servers) 0 chans c.self.invariant.channels) there (subst (λ z. IsSizeOf z c.args.chan c.args.call c.size_of.result) c.as_slice.ensures c.size_of.ensures) in
+    let all = sized chans c.args.chan c.args.call c.size_of.result (chans-sound (length c.self.inside.servers) 0 chans c.self.invariant.channels) there
+    (subst (λ z. IsSizeOf z c.args.chan c.args.call c.size_of.result) c.as_slice.ensures c.size_of.ensures) in
     subst (λ z. IsSized c.size_of.result (plan z.chans c.args.chan c.args.call)) c.self.view_is all

@@ -10,6 +10,7 @@ pub loop-word-preserved : goal.loop-word-preserved
 loop-word-preserved c =
     let none : Bor (List ℕ) = record { ref_ptr = (0, 0); now = [] } in
     rw c.in_ok-push.ensures.items (record {
-      rest = sym (each-next direction_word c.loop-word.directions.items c.args.words.now c.loop-word.word-index none c.in_ok-direction.direction c.loop-word-test.true (sym c.in_ok-direction.ensures.value)) ∙ c.loop-word.invariant.rest;
+      rest = sym (each-next direction_word c.loop-word.directions.items c.args.words.now c.loop-word.word-index none c.in_ok-direction.direction c.loop-word-test.true
+          (sym c.in_ok-direction.ensures.value)) ∙ c.loop-word.invariant.rest;
       spelled = All-push IsSpelled c.loop-word.directions.items c.in_ok-direction.direction c.loop-word.invariant.spelled c.in_ok-direction.ensures.bound;
     })
