@@ -16,8 +16,8 @@ use std::marker::Model;
 #[derive(Drop)]
 pub struct Outstanding {
     entries: Entries,
-    /// How many ids wait. There are at most twice as many entries, and one more: beyond that the ids that don't wait any
-    /// more are forgotten.
+    /// How many ids wait. There are at most twice as many entries, and a few more: beyond that the ids that don't wait
+    /// any more are forgotten.
     live: usize,
     /// No id before this place waits.
     front: usize,
@@ -66,6 +66,24 @@ impl Outstanding {
         ensures once { IsEachOnce self.new }
     {
         self.front = forget(&mut self.entries, self.front, id);
+        self.entries.insert(id, Some(call))?;
+        // The length is what says that the count fits.
+        let _length = self.entries.len();
+        self.live += 1;
+        Ok(())
+    }
+
+    /// Adds an id behind all others, whether or not it waits already: it waits once then. Where memory runs out it may
+    /// wait no more.
+    #[tactic(auto, using(crate::proofs::Waiting::once, crate::proofs::Waiting::added, crate::proofs::Waiting::gone_more, crate::proofs::Waiting::few, crate::proofs::Waiting::unknown, crate::proofs::Waiting::unchanged))]
+    pub fn renew(&mut self, id: u64, call: u32) -> Result<(), NoMemory>
+        ensures added { OnOk result (self.new ≡ without id self.old ++ (id, call) ∷ []) }
+        ensures once { IsEachOnce self.new }
+    {
+        if self.entries.get_index_of(&id).is_some() {
+            self.remove(id);
+            return self.add(id, call);
+        }
         self.entries.insert(id, Some(call))?;
         // The length is what says that the count fits.
         let _length = self.entries.len();

@@ -8,6 +8,7 @@ use std::test::Fail;
 #[derive(Clone, Copy, Debug)]
 enum Call {
     Add(u64, u32),
+    Renew(u64, u32),
     IsOutstanding(u64),
     Remove(u64),
     TakeFirst,
@@ -34,6 +35,7 @@ fn add(waiting: &mut Outstanding, id: u64, call: u32) -> Answer {
 fn apply(waiting: &mut Outstanding, call: Call) -> Answer {
     match call {
         Call::Add(id, call) => add(waiting, id, call),
+        Call::Renew(id, call) => Answer::Added(waiting.renew(id, call)),
         Call::IsOutstanding(id) => Answer::Outstanding(waiting.is_outstanding(id)),
         Call::Remove(id) => Answer::Removed(waiting.remove(id)),
         Call::TakeFirst => Answer::Taken(waiting.take_first()),
@@ -81,8 +83,11 @@ fn an_id_added_again_goes_last(rt: HostRuntime) -> Result<(), Fail> {
         (Call::TakeFirst, Answer::Taken(Some((0, 2)))),
         (Call::Add(0, 4), Answer::Added(Ok(()))),
         (Call::TakeFirst, Answer::Taken(Some((7, 3)))),
-        (Call::TakeFirst, Answer::Taken(Some((u64::MAX, u32::MAX)))),
+        (Call::Renew(u64::MAX, 5), Answer::Added(Ok(()))),
+        (Call::Renew(8, 6), Answer::Added(Ok(()))),
         (Call::TakeFirst, Answer::Taken(Some((0, 4)))),
+        (Call::TakeFirst, Answer::Taken(Some((u64::MAX, 5)))),
+        (Call::TakeFirst, Answer::Taken(Some((8, 6)))),
         (Call::TakeFirst, Answer::Taken(None)),
     ];
     run(&rt, &mut waiting, &rows);

@@ -1,3 +1,4 @@
+pub mod Numbered
 pub mod Chans
 pub mod Coming
 pub mod Leaves

@@ -5,6 +5,7 @@ pub mod Sends
 pub mod Passages
 pub mod Marked
 pub mod Acting
+pub mod Called
 pub mod Calls
 pub mod Slots
 pub mod Desk

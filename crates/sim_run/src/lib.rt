@@ -3,6 +3,7 @@
 #![tactic(auto)]
 
 mod acting;
+mod call_table;
 mod marking;
 mod open_call;
 mod planning;

@@ -17,6 +17,7 @@ ghost use Rattle.id_pool.specs.Ranges.{lowest};
 ghost use Rattle.rpc_model.specs.declared.told.Told.TheVariants.{Full as full};
 
 use crate::acting::post;
+use crate::call_table::CallTable;
 use crate::marking::set_marks;
 use crate::open_call::OpenCall;
 use crate::planning::Plans;
@@ -27,7 +28,6 @@ use crate::wire::{Wire, clone_bytes};
 use crate::wires::{forget, open_wires, receive};
 use call_tree::Effects;
 use id_pool::Pool;
-use indexmap::IndexMap;
 use rpc_base::{Bytes, NoMemory};
 use rpc_model::{Act, Event, Script, Told};
 use std::alloc::Global;
@@ -38,7 +38,7 @@ use timer_core::Marks;
 #[derive(Drop)]
 pub(crate) struct Replay {
     reached: u64,
-    calls: IndexMap<u32, Option<Ticket>>,
+    calls: CallTable,
     pool: Pool<OpenCall>,
     wires: Vec<Wire>,
     marks: Marks,
@@ -54,7 +54,7 @@ impl Replay {
     {
         Ok(Replay {
             reached: 0,
-            calls: IndexMap::new(alloc),
+            calls: CallTable::new(alloc),
             pool: Pool::open(alloc, script.slots)?,
             wires: open_wires(alloc, script.servers)?,
             marks: Marks::open(alloc),
@@ -65,7 +65,7 @@ impl Replay {
     fn ticket(&self, call: u32) -> Option<&Ticket>
         ensures { option_map (λ t. t.now) result ≡ ticket_of call self.now }
     {
-        match self.calls.get(&call) {
+        match self.calls.get(call) {
             None => None,
             Some(ticket) => ticket.as_ref(),
         }
@@ -183,7 +183,7 @@ impl Replay {
             effects.sends,
         )?;
         set_marks(&mut self.marks, ticket.first, effects.marks.list())?;
-        self.calls.insert(call, Some(ticket))?;
+        self.calls.push(call, Some(ticket))?;
         Ok(())
     }
 
@@ -196,7 +196,7 @@ impl Replay {
         ensures tells { OnOk result (told.new.items ≡ told.old.items ++ full call ∷ []) }
         ensures kept { OnErr result (told.new.items ≡ told.old.items) }
     {
-        self.calls.insert(call, None)?;
+        self.calls.push(call, None)?;
         told.push(Told::Full(call))?;
         Ok(())
     }
@@ -307,7 +307,7 @@ impl Replay {
         ensures tells { OnOk result (told.new.items ≡ told.old.items ++ spec.join_tells (replay_of self.old).reached (find (spec.is_call call) (replay_of self.old).calls)) }
         ensures kept { OnErr result (told.new.items ≡ told.old.items) }
     {
-        let Some(known) = self.calls.get(&call) else {
+        let Some(known) = self.calls.get(call) else {
             return Ok(());
         };
         let Some(ticket) = known else {

@@ -58,8 +58,7 @@ impl Wire {
         ensures { OnOk result (self.new ≡ sent id call payload self.old) }
     {
         self.out.send(id, payload)?;
-        self.outstanding.remove(id);
-        self.outstanding.add(id, call)?;
+        self.outstanding.renew(id, call)?;
         Ok(())
     }
 
