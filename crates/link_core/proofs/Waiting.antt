@@ -103,6 +103,11 @@ pub few : (es : List (ℕ × Option ℕ)) → length (waiting es) ≤ length es
 few [] = omega arith
 few (e ∷ es) = few_if e.0 e.1 (waiting es) (length es) (few es)
 
+-- where the count is 0, no id waits
+pub none_live : (xs : List (ℕ × ℕ)) → 0 ≡ length xs → xs ≡ []
+none_live [] h = refl
+none_live (x ∷ xs) h = absurd (omega (arith, h))
+
 -- ---- taking an id out
 
 removed_if : (b : Bool) (id k call : ℕ) (o : Option ℕ) (es put : List (ℕ × Option ℕ)) → nat_eq id k ≡ b → cond b (Some o) (lookup (nat_eq id) es) ≡ Some (Some call)

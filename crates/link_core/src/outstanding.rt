@@ -93,13 +93,16 @@ impl Outstanding {
 
     /// Takes an id out and answers its call. `None`, with nothing changed, exactly where the id doesn't wait. It takes
     /// no memory.
-    #[tactic(auto, using(crate::proofs::Waiting::once, crate::proofs::Waiting::shorter, crate::proofs::Waiting::unchanged, crate::proofs::Waiting::taken))]
+    #[tactic(auto, using(crate::proofs::Waiting::once, crate::proofs::Waiting::none_live, crate::proofs::Waiting::shorter, crate::proofs::Waiting::unchanged, crate::proofs::Waiting::taken))]
     pub fn remove(&mut self, id: u64) -> Option<u32>
         ensures answer { result ≡ call_of id self.old }
         ensures after { self.new ≡ without id self.old }
         ensures gone { is_outstanding id self.new ≡ false }
         ensures once { IsEachOnce self.new }
     {
+        if self.live == 0 {
+            return None;
+        }
         let call = take_call(&mut self.entries, id)?;
         self.live -= 1;
         self.front = tidy(&mut self.entries, self.live, self.front);
