@@ -29,7 +29,8 @@ woven-call : (n first moment : ℕ) (a : Acting) → (woven_at_most n first mome
 woven-call zero first moment a = refl
 woven-call (suc n) first moment a = by (least_mark a.call.waiting) (λ c. woven-call n first moment c)
   where
-    by : (o : Option (CallMark × List CallMark)) → ((c : Acting) → (woven_at_most n first moment c).call ≡ weave_at_most n moment c.call) → (woven_least (woven_at_most n first moment) first moment a o).call ≡ weave_least (weave_at_most n moment) moment a.call o
+    by : (o : Option (CallMark × List CallMark)) → ((c : Acting) → (woven_at_most n first moment c).call ≡ weave_at_most n moment c.call)
+        → (woven_least (woven_at_most n first moment) first moment a o).call ≡ weave_least (weave_at_most n moment) moment a.call o
     by None again = refl
     by (Some (mark, others)) again = at (nat_le mark.moment moment)
       where
@@ -37,7 +38,8 @@ woven-call (suc n) first moment a = by (least_mark a.call.waiting) (λ c. woven-
         at true = again (taken first a mark others)
         at false = refl
 
-finished-call : (n first reached : ℕ) (a : Acting) → ((finished_at_most n first reached a).0 ≡ (finish_at_most n reached a.call).0) × ((finished_at_most n first reached a).1.call ≡ (finish_at_most n reached a.call).1)
+finished-call : (n first reached : ℕ) (a : Acting)
+    → ((finished_at_most n first reached a).0 ≡ (finish_at_most n reached a.call).0) × ((finished_at_most n first reached a).1.call ≡ (finish_at_most n reached a.call).1)
 finished-call zero first reached a = (refl, refl)
 finished-call (suc n) first reached a = at (is_some (end_of a.call.state)) (λ r c. finished-call n first r c)
   where
@@ -46,8 +48,11 @@ finished-call (suc n) first reached a = at (is_some (end_of a.call.state)) (λ r
     by None again = (refl, refl)
     by (Some (mark, others)) again = again (max reached mark.moment) (taken first a mark others)
 
-    at : (v : Bool) → SameCalls n first → ((cond v (reached, a) (finished_least (finished_at_most n first) first reached a (least_mark a.call.waiting))).0 ≡ (cond v (reached, a.call) (finish_least (finish_at_most n) reached a.call (least_mark a.call.waiting))).0)
-        × ((cond v (reached, a) (finished_least (finished_at_most n first) first reached a (least_mark a.call.waiting))).1.call ≡ (cond v (reached, a.call) (finish_least (finish_at_most n) reached a.call (least_mark a.call.waiting))).1)
+    at : (v : Bool) → SameCalls n first
+        → ((cond v (reached, a) (finished_least (finished_at_most n first) first reached a (least_mark a.call.waiting))).0 ≡
+        (cond v (reached, a.call) (finish_least (finish_at_most n) reached a.call (least_mark a.call.waiting))).0)
+        × ((cond v (reached, a) (finished_least (finished_at_most n first) first reached a (least_mark a.call.waiting))).1.call ≡
+        (cond v (reached, a.call) (finish_least (finish_at_most n) reached a.call (least_mark a.call.waiting))).1)
     at true again = (refl, refl)
     at false again = by (least_mark a.call.waiting) again
 
@@ -77,14 +82,17 @@ woven-fuel (suc n) zero first moment a few few' = none (least_mark a.call.waitin
     none (Some (mark, others)) e = let l = taken-left a.call mark others e in absurd (omega (arith, l, few'))
 woven-fuel (suc n) (suc m) first moment a few few' = by (least_mark a.call.waiting) refl (λ c h h'. woven-fuel n m first moment c h h')
   where
-    by : (o : Option (CallMark × List CallMark)) → least_mark a.call.waiting ≡ o → ((c : Acting) → marks_left c.call ≤ n → marks_left c.call ≤ m → woven_at_most n first moment c ≡ woven_at_most m first moment c) → woven_least (woven_at_most n first moment) first moment a o ≡ woven_least (woven_at_most m first moment) first moment a o
+    by : (o : Option (CallMark × List CallMark)) → least_mark a.call.waiting ≡ o
+        → ((c : Acting) → marks_left c.call ≤ n → marks_left c.call ≤ m → woven_at_most n first moment c ≡ woven_at_most m first moment c)
+        → woven_least (woven_at_most n first moment) first moment a o ≡ woven_least (woven_at_most m first moment) first moment a o
     by None e again = refl
     by (Some (mark, others)) e again =
         let l = taken-left a.call mark others e in
         ap (λ (x : Acting). cond (nat_le mark.moment moment) x a) (again (taken first a mark others) (omega (arith, l, few)) (omega (arith, l, few')))
 
 -- The mark that comes first is due, and is taken.
-pub woven-due : (first moment : ℕ) (a : Acting) (mark : CallMark) (others : List CallMark) → least_mark a.call.waiting ≡ Some (mark, others) → mark.moment ≤ moment → woven first moment a ≡ woven first moment (taken first a mark others)
+pub woven-due : (first moment : ℕ) (a : Acting) (mark : CallMark) (others : List CallMark) → least_mark a.call.waiting ≡ Some (mark, others) → mark.moment ≤ moment
+    → woven first moment a ≡ woven first moment (taken first a mark others)
 woven-due first moment a mark others e due =
     let l = taken-left a.call mark others e in
     let test : nat_le mark.moment moment ≡ true = grind (arith, nat_tests) in
@@ -109,7 +117,8 @@ woven-late first moment a late = by (marks_left a.call) (least_mark a.call.waiti
 finished-idle : (n first reached : ℕ) (a : Acting) → least_mark a.call.waiting ≡ None → finished_at_most n first reached a ≡ (reached, a)
 finished-idle zero first reached a none = refl
 finished-idle (suc n) first reached a none =
-    ap (λ (o : Option (CallMark × List CallMark)). cond {A = ℕ × Acting} (is_some (end_of a.call.state)) (reached, a) (finished_least (finished_at_most n first) first reached a o)) none ∙ same (is_some (end_of a.call.state))
+    ap (λ (o : Option (CallMark × List CallMark)). cond {A = ℕ × Acting} (is_some (end_of a.call.state)) (reached, a) (finished_least (finished_at_most n first) first reached a o)) none
+    ∙ same (is_some (end_of a.call.state))
   where
     same : (v : Bool) → cond {A = ℕ × Acting} v (reached, a) (reached, a) ≡ (reached, a)
     same true = refl
@@ -142,7 +151,8 @@ pub finished-open : (first reached : ℕ) (a : Acting) (mark : CallMark) (others
 finished-open first reached a mark others open_ e =
     let l = taken-left a.call mark others e in
     let once : finished_at_most (suc (marks_left a.call)) first reached a ≡ finished_at_most (marks_left a.call) first (max reached mark.moment) (taken first a mark others) =
-    ap (λ v. cond {A = ℕ × Acting} v (reached, a) (finished_least (finished_at_most (marks_left a.call) first) first reached a (least_mark a.call.waiting))) open_ ∙ ap (finished_least (finished_at_most (marks_left a.call) first) first reached a) e in
+    ap (λ v. cond {A = ℕ × Acting} v (reached, a) (finished_least (finished_at_most (marks_left a.call) first) first reached a (least_mark a.call.waiting))) open_
+    ∙ ap (finished_least (finished_at_most (marks_left a.call) first) first reached a) e in
     finished-fuel (marks_left a.call) (suc (marks_left a.call)) first reached a (omega arith) (omega arith) ∙ once
     ∙ finished-fuel (marks_left a.call) (marks_left (taken first a mark others).call) first (max reached mark.moment) (taken first a mark others) (omega (arith, l)) (omega arith)
 
@@ -197,7 +207,8 @@ pub has-marked : (id moment first : ℕ) (set : List CallMark) (marks : List Mar
 has-marked id moment first [] marks h = h
 has-marked id moment first (w ∷ set) marks h = has-marked id moment first set (added (timed first w) marks) (has-added id moment (timed first w) marks h)
 
-pub all-has : (first : ℕ) (waiting : List CallMark) (marks more : List Mark) → ((id moment : ℕ) → HasMark id moment marks → HasMark id moment more) → HasMarks first waiting marks → HasMarks first waiting more
+pub all-has : (first : ℕ) (waiting : List CallMark) (marks more : List Mark) → ((id moment : ℕ) → HasMark id moment marks → HasMark id moment more) → HasMarks first waiting marks
+    → HasMarks first waiting more
 all-has first [] marks more h all = tt
 all-has first (w ∷ ws) marks more h all = (h (first + w.node) w.moment all.0, all-has first ws marks more h all.1)
 
@@ -221,7 +232,8 @@ marks-set first (w ∷ set) waiting marks all =
 abbrev pub HasIf : (ℕ → Type 0) → ℕ → List CallMark → List Mark → Type 0
 HasIf Q first waiting marks = AllByRecursion (λ w. Q w.moment → HasMark (first + w.node) w.moment marks) waiting
 
-all-late : (Q : ℕ → Type 0) (first : ℕ) (waiting : List CallMark) (marks more : List Mark) → ((id moment : ℕ) → HasMark id moment marks → HasMark id moment more) → HasIf Q first waiting marks → HasIf Q first waiting more
+all-late : (Q : ℕ → Type 0) (first : ℕ) (waiting : List CallMark) (marks more : List Mark) → ((id moment : ℕ) → HasMark id moment marks → HasMark id moment more)
+    → HasIf Q first waiting marks → HasIf Q first waiting more
 all-late Q first [] marks more h all = tt
 all-late Q first (w ∷ ws) marks more h all = ((λ late. h (first + w.node) w.moment (all.0 late)), all-late Q first ws marks more h all.1)
 
@@ -240,7 +252,8 @@ all-added P mark (m ∷ ms) p all = by (comes_after m mark) (all-added P mark ms
     by true rest = (p, all)
     by false rest = (all.0, rest)
 
-pub ids-set : (P : ℕ → Type 0) (n first : ℕ) (set : List CallMark) (marks : List Mark) → ((node : ℕ) → node < n → P (first + node)) → AreWithin n set → AllByRecursion (λ (m : Mark). P m.id) marks → AllByRecursion (λ (m : Mark). P m.id) (marked first set marks)
+pub ids-set : (P : ℕ → Type 0) (n first : ℕ) (set : List CallMark) (marks : List Mark) → ((node : ℕ) → node < n → P (first + node)) → AreWithin n set
+    → AllByRecursion (λ (m : Mark). P m.id) marks → AllByRecursion (λ (m : Mark). P m.id) (marked first set marks)
 ids-set P n first [] marks own within all = all
 ids-set P n first (w ∷ set) marks own within all = ids-set P n first set (added (timed first w) marks) own within.1 (all-added (λ (m : Mark). P m.id) (timed first w) marks (own w.node within.0) all)
 
@@ -272,7 +285,8 @@ least-rest P (w ∷ ws) mark others e all = let pair : (w, ws) ≡ (mark, others
 taken-marked : (n first : ℕ) (a : Acting) (mark : CallMark) (others : List CallMark) → least_mark a.call.waiting ≡ Some (mark, others) → IsFit n a.call → IsMarked n first a (taken first a mark others)
 taken-marked n first a mark others e fit =
     let without : Acting = record a { call = record a.call { waiting = others } } in
-    let kept : IsFit n without.call = record { size = fit.size; nodes = least-rest (λ w. w.node < n) a.call.waiting mark others e fit.nodes; sorted = sorted-rest a.call.waiting mark others e fit.sorted } in
+    let kept : IsFit n without.call =
+    record { size = fit.size; nodes = least-rest (λ w. w.node < n) a.call.waiting mark others e fit.nodes; sorted = sorted-rest a.call.waiting mark others e fit.sorted } in
     let step_is = acted-marked n first (mark_event mark.node mark.backup) mark.moment without kept in
     record { own = λ Q h. step_is.own Q (least-rest (λ w. Q w.moment → HasMark (first + w.node) w.moment a.marks) a.call.waiting mark others e h); others = step_is.others; ids = step_is.ids }
   where
@@ -284,24 +298,30 @@ woven-marked : (n count first moment : ℕ) (a : Acting) → IsFit n a.call → 
 woven-marked n zero first moment a fit = same-marked n first a
 woven-marked n (suc count) first moment a fit = by (least_mark a.call.waiting) refl (λ c h. woven-marked n count first moment c h)
   where
-    by : (o : Option (CallMark × List CallMark)) → least_mark a.call.waiting ≡ o → ((c : Acting) → IsFit n c.call → IsMarked n first c (woven_at_most count first moment c)) → IsMarked n first a (woven_least (woven_at_most count first moment) first moment a o)
+    by : (o : Option (CallMark × List CallMark)) → least_mark a.call.waiting ≡ o → ((c : Acting) → IsFit n c.call → IsMarked n first c (woven_at_most count first moment c))
+        → IsMarked n first a (woven_least (woven_at_most count first moment) first moment a o)
     by None e again = same-marked n first a
     by (Some (mark, others)) e again = at (nat_le mark.moment moment)
       where
         at : (v : Bool) → IsMarked n first a (cond v (woven_at_most count first moment (taken first a mark others)) a)
-        at true = then-marked n first a (taken first a mark others) (woven_at_most count first moment (taken first a mark others)) (taken-marked n first a mark others e fit) (again (taken first a mark others) (taken-fit n a.call mark others e fit))
+        at true =
+            then-marked n first a (taken first a mark others) (woven_at_most count first moment (taken first a mark others)) (taken-marked n first a mark others e fit)
+            (again (taken first a mark others) (taken-fit n a.call mark others e fit))
         at false = same-marked n first a
 
 finished-marked : (n count first reached : ℕ) (a : Acting) → IsFit n a.call → IsMarked n first a (finished_at_most count first reached a).1
 finished-marked n zero first reached a fit = same-marked n first a
 finished-marked n (suc count) first reached a fit = at (is_some (end_of a.call.state)) (λ r c h. finished-marked n count first r c h)
   where
-    by : (o : Option (CallMark × List CallMark)) → least_mark a.call.waiting ≡ o → ((r : ℕ) (c : Acting) → IsFit n c.call → IsMarked n first c (finished_at_most count first r c).1) → IsMarked n first a (finished_least (finished_at_most count first) first reached a o).1
+    by : (o : Option (CallMark × List CallMark)) → least_mark a.call.waiting ≡ o → ((r : ℕ) (c : Acting) → IsFit n c.call → IsMarked n first c (finished_at_most count first r c).1)
+        → IsMarked n first a (finished_least (finished_at_most count first) first reached a o).1
     by None e again = same-marked n first a
     by (Some (mark, others)) e again =
-        then-marked n first a (taken first a mark others) (finished_at_most count first (max reached mark.moment) (taken first a mark others)).1 (taken-marked n first a mark others e fit) (again (max reached mark.moment) (taken first a mark others) (taken-fit n a.call mark others e fit))
+        then-marked n first a (taken first a mark others) (finished_at_most count first (max reached mark.moment) (taken first a mark others)).1 (taken-marked n first a mark others e fit)
+        (again (max reached mark.moment) (taken first a mark others) (taken-fit n a.call mark others e fit))
 
-    at : (v : Bool) → ((r : ℕ) (c : Acting) → IsFit n c.call → IsMarked n first c (finished_at_most count first r c).1) → IsMarked n first a (cond v (reached, a) (finished_least (finished_at_most count first) first reached a (least_mark a.call.waiting))).1
+    at : (v : Bool) → ((r : ℕ) (c : Acting) → IsFit n c.call → IsMarked n first c (finished_at_most count first r c).1)
+        → IsMarked n first a (cond v (reached, a) (finished_least (finished_at_most count first) first reached a (least_mark a.call.waiting))).1
     at true again = same-marked n first a
     at false again = by (least_mark a.call.waiting) refl again
 

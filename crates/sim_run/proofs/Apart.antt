@@ -1,5 +1,6 @@
 -- Where one slot changes, the ids of other ranges find what they found.
-use Rattle.std.proofs.Common.{◌≡◌, ◌≢◌, ℕ, zero, suc, ◌+◌, ◌-◌, ◌/◌, ◌^◌, ◌<◌, ◌≤◌, ◌⊎◌, inl, inr, leb, ltb, ◌&&◌, false, if◌then◌else◌, List, [], ◌∷◌, length, slice_get, Option, None, Some, ap, sym, refl, ◌∙◌, subst, arith}
+use Rattle.std.proofs.Common.{◌≡◌, ◌≢◌, ℕ, zero, suc, ◌+◌, ◌-◌, ◌/◌, ◌^◌, ◌<◌, ◌≤◌, ◌⊎◌, inl, inr, leb, ltb, ◌&&◌, false, if◌then◌else◌, List, [], ◌∷◌, length, slice_get, Option, None, Some}
+use Rattle.std.proofs.Common.{ap, sym, refl, ◌∙◌, subst, arith}
 use Rattle.std.proofs.lemmas.Bool.{cases_lt}
 use Rattle.std.proofs.lemmas.Bool.Decides.{nat_tests}
 use Rattle.rpc_model.specs.Marks.{Begun}
@@ -94,7 +95,8 @@ pub record StandsAside (slots after : List (Slot Begun)) (call : ℕ) (range : T
 found : (v : ℕ) (range : Ticket) (m : Option (Slot Begun)) (s : Slot Begun) → m ≡ Some s → IsOfSlot range m → IsOf range s
 found v range m s e h = subst (IsOfSlot range) e h
 
-aside-at : (slots after : List (Slot Begun)) (call : ℕ) (range : Ticket) (o : Option ℕ) (i : ℕ) (f : Slot Begun → Slot Begun) (s : Slot Begun) → slot_of range.first ≡ o → after ≡ change i f slots → slice_get slots i ≡ Some s
+aside-at : (slots after : List (Slot Begun)) (call : ℕ) (range : Ticket) (o : Option ℕ) (i : ℕ) (f : Slot Begun → Slot Begun) (s : Slot Begun) → slot_of range.first ≡ o
+    → after ≡ change i f slots → slice_get slots i ≡ Some s
     → IsNext s (f s) → IsKnown slots call (Some range) → (slot_of range.first ≡ Some i → IsAside range s) → StandsAside slots after call range
 aside-at slots after call range None i f s p e at next known aside = absurd (subst (λ o. IsOfSlot range (slot_at o slots)) p known.1)
 aside-at slots after call range (Some j) i f s p e at next known aside = elim (same_or i j) [

@@ -62,12 +62,14 @@ mutual
   all-attempts-leaf node (plan_then p ps) =
       all-append (HasLeaf (leaf_at_of node (plan_then p ps))) (attempt_versions node p) (attempt_versions_of (node + nodes p) ps)
       (weaker (leaf_at node p) (leaf_at_of node (plan_then p ps)) (λ n h. or-first (leaf_at node p n) (leaf_at_of (node + nodes p) ps n) h) (attempt_versions node p) (attempts-leaf node p))
-      (weaker (leaf_at_of (node + nodes p) ps) (leaf_at_of node (plan_then p ps)) (λ n h. or-second (leaf_at node p n) (leaf_at_of (node + nodes p) ps n) h) (attempt_versions_of (node + nodes p) ps) (all-attempts-leaf (node + nodes p) ps))
+      (weaker (leaf_at_of (node + nodes p) ps) (leaf_at_of node (plan_then p ps)) (λ n h. or-second (leaf_at node p n) (leaf_at_of (node + nodes p) ps n) h)
+      (attempt_versions_of (node + nodes p) ps) (all-attempts-leaf (node + nodes p) ps))
 
 means-leaf : (p : Plan MapKind MergeKind) (node attempt offset : ℕ) → meaning_of p offset ≡ Some (Attempt node attempt) → is_some (leaf_at 0 p node) ≡ true
 unfolding versions meaning_of
 means-leaf p node attempt offset e =
-    all-at (HasLeaf (leaf_at 0 p)) (versions p) offset (Attempt node attempt) (all-append (HasLeaf (leaf_at 0 p)) (node_versions 0 (nodes p)) (attempt_versions 0 p) (nodes-leaf (leaf_at 0 p) 0 (nodes p)) (attempts-leaf 0 p)) e
+    all-at (HasLeaf (leaf_at 0 p)) (versions p) offset (Attempt node attempt)
+    (all-append (HasLeaf (leaf_at 0 p)) (node_versions 0 (nodes p)) (attempt_versions 0 p) (nodes-leaf (leaf_at 0 p) 0 (nodes p)) (attempts-leaf 0 p)) e
 
 -- Where the plan has no leaf of this number, it has no attempt of it.
 pub no-leaf : (p : Plan MapKind MergeKind) (node attempt : ℕ) → leaf_at 0 p node ≡ None → offset_of p (Attempt node attempt) ≡ None

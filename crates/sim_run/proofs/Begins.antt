@@ -1,5 +1,6 @@
 -- A call that begins takes the lowest vacant slot, or finds none.
-use Rattle.std.proofs.Common.{◌≡◌, ℕ, zero, suc, ◌+◌, ◌*◌, ◌^◌, ◌<◌, ◌≤◌, inl, Bool, true, false, cond, nat_eq, List, [], ◌∷◌, ◌++◌, length, slice_get, count_by, Option, None, Some, ap, sym, refl, ◌∙◌, subst, arith, add-one, length-append}
+use Rattle.std.proofs.Common.{◌≡◌, ℕ, zero, suc, ◌+◌, ◌*◌, ◌^◌, ◌<◌, ◌≤◌, inl, Bool, true, false, cond, nat_eq, List, [], ◌∷◌, ◌++◌, length, slice_get, count_by, Option, None, Some, ap, sym}
+use Rattle.std.proofs.Common.{refl, ◌∙◌, subst, arith, add-one, length-append}
 use Rattle.std.proofs.lemmas.Bool.{ne_eqb}
 use Rattle.std.proofs.lemmas.List.{map-append, append-nil}
 use Rattle.std.proofs.lemmas.List.Sums.{sum_by-append, count_by-le-length}
@@ -21,7 +22,8 @@ use Rattle.sim_run.proofs.Changes.{look-at, seen-taken, slice_get-change}
 use Rattle.sim_run.proofs.Steps.{offset-in}
 use Rattle.sim_run.proofs.Entries.{one, count-cons, count-change, All-change, slot-of-all}
 
-later-at : {T : Type 0} (x : Slot T) (ss : List (Slot T)) (o : Option (ℕ × ℕ)) (i next : ℕ) → later o ≡ Some (i, next) → ((j m : ℕ) → o ≡ Some (j, m) → slice_get ss j ≡ Some (Vacant m)) → slice_get (x ∷ ss) i ≡ Some (Vacant next)
+later-at : {T : Type 0} (x : Slot T) (ss : List (Slot T)) (o : Option (ℕ × ℕ)) (i next : ℕ) → later o ≡ Some (i, next) → ((j m : ℕ) → o ≡ Some (j, m) → slice_get ss j ≡ Some (Vacant m))
+    → slice_get (x ∷ ss) i ≡ Some (Vacant next)
 later-at x ss None i next e h = absurd (cc)
 later-at x ss (Some (j, m)) i next e h =
     let same : (j + 1, m) ≡ (i, next) = cc in
@@ -112,7 +114,8 @@ all-aside slots after ((call, Some range) ∷ xs) aside known =
     (ap (λ s. s ∷ standings after xs) (ap (stand call) head.value) ∙ ap (λ ss. standing_at slots call (Some range) ∷ ss) tail.0, (head.known, tail.1))
 
 -- No known id is that of a slot's next range.
-new-first : (slots : List (Slot Begun)) (i next : ℕ) (entries : List (ℕ × Option Ticket)) → slice_get slots i ≡ Some (Vacant next) → next < 2 ^ 32 → AllByRecursion (λ entry. IsKnown slots entry.0 entry.1) entries
+new-first : (slots : List (Slot Begun)) (i next : ℕ) (entries : List (ℕ × Option Ticket)) → slice_get slots i ≡ Some (Vacant next) → next < 2 ^ 32
+    → AllByRecursion (λ entry. IsKnown slots entry.0 entry.1) entries
     → AllByRecursion (λ y. nat_eq y (make_id i next) ≡ false) (firsts entries)
 new-first slots i next [] at low known = tt
 new-first slots i next ((call, None) ∷ xs) at low known = new-first slots i next xs at low known.1
@@ -133,7 +136,8 @@ pub record Joined (slots after : List (Slot Begun)) (entries : List (ℕ × Opti
   pub size : length after ≡ length slots
 
 -- A call that found no slot.
-pub full-begins : (slots : List (Slot Begun)) (entries : List (ℕ × Option Ticket)) (call : ℕ) → IsSound slots entries → IsDistinct nat_eq (keys_of (entries ++ (call, None) ∷ [])) → Joined slots slots entries call None (full call)
+pub full-begins : (slots : List (Slot Begun)) (entries : List (ℕ × Option Ticket)) (call : ℕ) → IsSound slots entries → IsDistinct nat_eq (keys_of (entries ++ (call, None) ∷ []))
+    → Joined slots slots entries call None (full call)
 full-begins slots entries call sound numbers =
     let stands = map-append (standing slots) entries ((call, None) ∷ []) in
     let more = length-snoc entries (call, None) in
@@ -143,14 +147,16 @@ full-begins slots entries call sound numbers =
         numbers = numbers;
         ids = subst (IsDistinct nat_eq) (sym (firsts-snoc entries call None ∙ append-nil (firsts entries))) sound.ids;
         known = All-snoc (λ entry. IsKnown slots entry.0 entry.1) entries (call, None) sound.known tt;
-        open_slots = All-weaken (IsSlot (1 + 1024 * length entries)) (IsSlot (1 + 1024 * length (entries ++ (call, None) ∷ []))) slots (λ s h. slot-later _ _ s (omega (arith, more)) h) sound.open_slots;
+        open_slots = All-weaken (IsSlot (1 + 1024 * length entries)) (IsSlot (1 + 1024 * length (entries ++ (call, None) ∷ []))) slots (λ s h. slot-later _ _ s (omega (arith, more)) h)
+            sound.open_slots;
         counted = ap (count_by is_begun) stands ∙ count-snoc is_begun (standings slots entries) (full call) ∙ omega (arith, sound.counted);
       };
       size = refl;
     }
 
 -- A call that takes a vacant slot.
-pub call-begins : (slots : List (Slot Begun)) (entries : List (ℕ × Option Ticket)) (call i next : ℕ) (range : Ticket) (b : Begun) → IsSound slots entries → length entries ≤ 500000 → slice_get slots i ≡ Some (Vacant next)
+pub call-begins : (slots : List (Slot Begun)) (entries : List (ℕ × Option Ticket)) (call i next : ℕ) (range : Ticket) (b : Begun) → IsSound slots entries → length entries ≤ 500000
+    → slice_get slots i ≡ Some (Vacant next)
     → range.first ≡ make_id i next → b.plan ≡ plan_of range → 1 ≤ width_of range → width_of range ≤ 1024 → b.call ≡ call → IsFit (width_of range) b
     → IsDistinct nat_eq (keys_of (entries ++ (call, Some range) ∷ []))
     → Joined slots (change i (λ s. Taken (fresh next (width_of range) b)) slots) entries call (Some range) (begun b)
@@ -167,7 +173,8 @@ call-begins slots entries call i next range b sound few at first planned some mo
     let at_new : slot_at (slot_of range.first) after ≡ Some t = ap (λ o. slot_at o after) slot ∙ slice_get-change i g slots (Vacant next) at in
     let zero_more : version_of range.first ≡ next + 0 = version ∙ omega arith in
     let looks : value_says (look range.first after) ≡ Some b =
-    ap value_says (look-at range.first after t at_new ∙ seen-taken (version_of range.first) (fresh next width b) (Some 0) Free (ap (offset (fresh next width b)) zero_more ∙ offset-in (fresh next width b) 0 (omega (arith, some))) refl) in
+    ap value_says (look-at range.first after t at_new
+    ∙ seen-taken (version_of range.first) (fresh next width b) (Some 0) Free (ap (offset (fresh next width b)) zero_more ∙ offset-in (fresh next width b) 0 (omega (arith, some))) refl) in
     let stands : standings after (entries ++ (call, Some range) ∷ []) ≡ standings slots entries ++ begun b ∷ [] =
     map-append (standing after) entries ((call, Some range) ∷ []) ∙ ap (λ ss. ss ++ standing_at after call (Some range) ∷ []) others.0 ∙ ap (λ x. standings slots entries ++ stand call x ∷ []) looks in
     let more = length-snoc entries (call, Some range) in
@@ -176,8 +183,11 @@ call-begins slots entries call i next range b sound few at first planned some mo
       stands = stands;
       sound = record {
         numbers = numbers;
-        ids = subst (IsDistinct nat_eq) (sym (firsts-snoc entries call (Some range))) (distinct-snoc (firsts entries) range.first sound.ids (subst (λ id. AllByRecursion (λ y. nat_eq y id ≡ false) (firsts entries)) (sym first) (new-first slots i next entries at low sound.known)));
-        known = All-snoc (λ entry. IsKnown after entry.0 entry.1) entries (call, Some range) others.1 (some, subst (IsOfSlot range) (sym at_new) (inl (version, refl)), subst (IsNumbered call range) (sym looks) (number, planned));
+        ids = subst (IsDistinct nat_eq) (sym (firsts-snoc entries call (Some range)))
+            (distinct-snoc (firsts entries) range.first sound.ids
+            (subst (λ id. AllByRecursion (λ y. nat_eq y id ≡ false) (firsts entries)) (sym first) (new-first slots i next entries at low sound.known)));
+        known = All-snoc (λ entry. IsKnown after entry.0 entry.1) entries (call, Some range) others.1
+            (some, subst (IsOfSlot range) (sym at_new) (inl (version, refl)), subst (IsNumbered call range) (sym looks) (number, planned));
         open_slots = All-change (IsSlot (1 + 1024 * length (entries ++ (call, Some range) ∷ []))) i g slots
             (All-weaken (IsSlot (1 + 1024 * length entries)) (IsSlot (1 + 1024 * length (entries ++ (call, Some range) ∷ []))) slots (λ s h. slot-later _ _ s (omega (arith, more)) h) sound.open_slots)
             (λ s e h. record { below = omega (arith, top, most, more); free = refl; sized = ap plan_width (sym planned); fit = fit });

@@ -38,7 +38,8 @@ pub record Found (slots : List (Slot Begun)) (ticket : Ticket) (b : Begun) (k : 
   pub behind : (ticket.first + k) - k ≡ make_id l.slot l.r.first
   pub slot : slot_of (ticket.first + k) ≡ Some l.slot
 
-pub found : (slots : List (Slot Begun)) (entries : List (ℕ × Option Ticket)) (ticket : Ticket) (b : Begun) (k : ℕ) (l : Lives slots ticket b) → IsSound slots entries → length entries ≤ 500000 → k < width_of ticket → Found slots ticket b k l
+pub found : (slots : List (Slot Begun)) (entries : List (ℕ × Option Ticket)) (ticket : Ticket) (b : Begun) (k : ℕ) (l : Lives slots ticket b) → IsSound slots entries
+    → length entries ≤ 500000 → k < width_of ticket → Found slots ticket b k l
 found slots entries ticket b k l sound few within =
     let range = slot-of-all (IsSlot (most entries)) l.slot slots (Taken l.r) sound.open_slots l.at in
     let below = range.below in
@@ -55,13 +56,15 @@ found slots entries ticket b k l sound few within =
 
 -- A range whose call was changed, among slots whose marks are in the list: what it does adds marks, and drops none.
 pub marked-step : (slots : List (Slot Begun)) (i : ℕ) (r s : Range Begun) (g : Slot Begun → Slot Begun) (a b : Acting) → slice_get slots i ≡ Some (Taken r) → g (Taken r) ≡ Taken s → s.first ≡ r.first
-    → HasMarks (make_id i r.first) s.value.waiting b.marks → ((id moment : ℕ) → HasMark id moment a.marks → HasMark id moment b.marks) → ((j : ℕ) (x : Range Begun) → i ≢ j → slice_get slots j ≡ Some (Taken x) → HasMarks (make_id j x.first) x.value.waiting a.marks) → AreMarked b.marks (change i g slots)
+    → HasMarks (make_id i r.first) s.value.waiting b.marks → ((id moment : ℕ) → HasMark id moment a.marks → HasMark id moment b.marks)
+    → ((j : ℕ) (x : Range Begun) → i ≢ j → slice_get slots j ≡ Some (Taken x) → HasMarks (make_id j x.first) x.value.waiting a.marks) → AreMarked b.marks (change i g slots)
 marked-step slots i r s g a b at is first done others all j x there = elim (same_or i j) [
   | inl same ↦
       let new : slice_get (change i g slots) i ≡ Some (Taken s) = slice_get-change i g slots (Taken r) at ∙ ap Some is in
       let both : Some (Taken s) ≡ Some (Taken x) = sym new ∙ ap (slice_get (change i g slots)) same ∙ there in
       let own : s ≡ x = same-taken s x both in
-      subst (λ (y : Range Begun). HasMarks (make_id j y.first) y.value.waiting b.marks) own (subst (λ n. HasMarks (make_id n s.first) s.value.waiting b.marks) same (subst (λ f. HasMarks (make_id i f) s.value.waiting b.marks) (sym first) done))
+      subst (λ (y : Range Begun). HasMarks (make_id j y.first) y.value.waiting b.marks) own
+      (subst (λ n. HasMarks (make_id n s.first) s.value.waiting b.marks) same (subst (λ f. HasMarks (make_id i f) s.value.waiting b.marks) (sym first) done))
   | inr other ↦
       let here : slice_get slots j ≡ Some (Taken x) = sym (slice_get-other i j g slots other) ∙ there in
       all-has (make_id j x.first) x.value.waiting a.marks b.marks others (all j x other here)
@@ -71,7 +74,8 @@ marked-step slots i r s g a b at is first done others all j x there = elim (same
     same-taken s x e = cc
 
 -- Where a slot no longer has a call, the others' marks are in the list.
-pub marked-left : (slots : List (Slot Begun)) (i next : ℕ) (r : Range Begun) (g : Slot Begun → Slot Begun) (a b : Acting) → slice_get slots i ≡ Some (Taken r) → g (Taken r) ≡ Vacant next → ((id moment : ℕ) → HasMark id moment a.marks → HasMark id moment b.marks) → AreMarked a.marks slots → AreMarked b.marks (change i g slots)
+pub marked-left : (slots : List (Slot Begun)) (i next : ℕ) (r : Range Begun) (g : Slot Begun → Slot Begun) (a b : Acting) → slice_get slots i ≡ Some (Taken r) → g (Taken r) ≡ Vacant next
+    → ((id moment : ℕ) → HasMark id moment a.marks → HasMark id moment b.marks) → AreMarked a.marks slots → AreMarked b.marks (change i g slots)
 marked-left slots i next r g a b at is others all j x there = elim (same_or i j) [
   | inl same ↦
       let new : slice_get (change i g slots) i ≡ Some (Vacant next) = slice_get-change i g slots (Taken r) at ∙ ap Some is in
@@ -95,10 +99,13 @@ pub record Brings (slots after : List (Slot Begun)) (marks : List Mark) (entries
   pub owned : AreOwned entries marks
 
 -- The ids of a call's range are the call's.
-pub own-ids : (entries : List (ℕ × Option Ticket)) (call : ℕ) (ticket : Ticket) {n first : ℕ} → lookup (nat_eq call) entries ≡ Some (Some ticket) → width_of ticket ≡ n → ticket.first ≡ first → (node : ℕ) → node < n → IsOwned entries (first + node)
+pub own-ids : (entries : List (ℕ × Option Ticket)) (call : ℕ) (ticket : Ticket) {n first : ℕ} → lookup (nat_eq call) entries ≡ Some (Some ticket) → width_of ticket ≡ n → ticket.first ≡ first
+    → (node : ℕ) → node < n → IsOwned entries (first + node)
 own-ids entries call ticket at wide is node less = record { call = call; ticket = ticket; place = node; found = at; within = omega (arith, wide, less); is = omega (arith, is) }
 
-brings-over : (slots : List (Slot Begun)) (wires : List Link) (marks : List Mark) (entries : List (ℕ × Option Ticket)) (call : ℕ) (ticket : Ticket) (d : ℕ → Acting → Acting) (h : Begun → Begun) (f : Standing → Standing) (k : ℕ) → IsSound slots entries → length entries ≤ 500000
+brings-over : (slots : List (Slot Begun)) (wires : List Link) (marks : List Mark) (entries : List (ℕ × Option Ticket)) (call : ℕ) (ticket : Ticket) (d : ℕ → Acting → Acting)
+    (h : Begun → Begun) (f : Standing → Standing) (k : ℕ)
+    → IsSound slots entries → length entries ≤ 500000
     → lookup (nat_eq call) entries ≡ Some (Some ticket) → k < width_of ticket → AreMarked marks slots → AreOwned entries marks → value_says (look ticket.first slots) ≡ None
     → Follows slots (changed (visit h (version_of (ticket.first + k))) (ticket.first + k) slots) entries call f
     → Brings slots (changed (visit h (version_of (ticket.first + k))) (ticket.first + k) slots) (acts_by (ticket.first + k) d (look (ticket.first + k) slots) wires marks).1 entries call f
@@ -115,7 +122,9 @@ brings-over slots wires marks entries call ticket d h f k sound few at within ma
       owned = subst (AreOwned entries) (sym silent) owned;
     }
 
-brings-lives : (slots : List (Slot Begun)) (wires : List Link) (marks : List Mark) (entries : List (ℕ × Option Ticket)) (call : ℕ) (ticket : Ticket) (d : ℕ → Acting → Acting) (h : Begun → Begun) (f : Standing → Standing) (k : ℕ) (b : Begun) → Does d h → IsSound slots entries
+brings-lives : (slots : List (Slot Begun)) (wires : List Link) (marks : List Mark) (entries : List (ℕ × Option Ticket)) (call : ℕ) (ticket : Ticket) (d : ℕ → Acting → Acting)
+    (h : Begun → Begun) (f : Standing → Standing) (k : ℕ) (b : Begun)
+    → Does d h → IsSound slots entries
     → length entries ≤ 500000 → lookup (nat_eq call) entries ≡ Some (Some ticket) → k < width_of ticket → AreMarked marks slots → AreOwned entries marks → value_says (look ticket.first slots) ≡ Some b
     → Follows slots (changed (visit h (version_of (ticket.first + k))) (ticket.first + k) slots) entries call f
     → Brings slots (changed (visit h (version_of (ticket.first + k))) (ticket.first + k) slots) (acts_by (ticket.first + k) d (look (ticket.first + k) slots) wires marks).1 entries call f
@@ -133,7 +142,8 @@ brings-lives slots wires marks entries call ticket d h f k b does sound few at w
     ap (λ x. (acts_by (ticket.first + k) d x wires marks).1) it.looks ∙ ap (λ n. (d n a).marks) it.behind in
     let range = slot-of-all (IsSlot (most entries)) l.slot slots (Taken l.r) sound.open_slots l.at in
     let kept = does.marks l.r.size id a range.fit in
-    let done : HasMarks id (h l.r.value).waiting (d id a).marks = subst (λ (c : Begun). HasMarks id c.waiting (d id a).marks) (does.call id a) (marks-own l.r.size id a (d id a) kept (marked l.slot l.r l.at)) in
+    let done : HasMarks id (h l.r.value).waiting (d id a).marks =
+    subst (λ (c : Begun). HasMarks id c.waiting (d id a).marks) (does.call id a) (marks-own l.r.size id a (d id a) kept (marked l.slot l.r l.at)) in
     let step = marked-step slots l.slot l.r (visited l.r (h l.r.value)) g a (d id a) l.at is refl done kept.others (λ j x differ there. marked j x there) in
     let mine = own-ids entries call ticket at l.width it.own in
     record {
@@ -143,7 +153,9 @@ brings-lives slots wires marks entries call ticket d h f k b does sound few at w
     }
 
 -- What comes to a call by one of its ids.
-pub brings : (slots : List (Slot Begun)) (wires : List Link) (marks : List Mark) (entries : List (ℕ × Option Ticket)) (call : ℕ) (ticket : Ticket) (d : ℕ → Acting → Acting) (h : Begun → Begun) (f : Standing → Standing) (k : ℕ) → Does d h → Changes slots ticket h f → IsSound slots entries
+pub brings : (slots : List (Slot Begun)) (wires : List Link) (marks : List Mark) (entries : List (ℕ × Option Ticket)) (call : ℕ) (ticket : Ticket) (d : ℕ → Acting → Acting)
+    (h : Begun → Begun) (f : Standing → Standing) (k : ℕ)
+    → Does d h → Changes slots ticket h f → IsSound slots entries
     → length entries ≤ 500000 → lookup (nat_eq call) entries ≡ Some (Some ticket) → k < width_of ticket → AreMarked marks slots → AreOwned entries marks
     → Brings slots (changed (visit h (version_of (ticket.first + k))) (ticket.first + k) slots) (acts_by (ticket.first + k) d (look (ticket.first + k) slots) wires marks).1 entries call f
 brings slots wires marks entries call ticket d h f k acts does sound few at within marked owned = by (value_says (look ticket.first slots)) refl

@@ -1,7 +1,8 @@
 -- Changes of the slot that an id names, one after the other.
 use Rattle.std.proofs.Common.{◌≡◌, ◌≢◌, ℕ, zero, suc, List, [], ◌∷◌, slice_get, Option, None, Some, ap, sym, refl, ◌∙◌}
 use Rattle.id_pool.specs.Ids.{slot_of, version_of}
-use Rattle.id_pool.specs.Ranges.{Slot, Vacant, Retired, Taken, Range, Standing, Free, Held, Ended, Seen, Nothing, Unlocked, Locked, offset, seen, seen_at, seen_in, look, slot_at, change, change_at, changed, locked, locked_by, unlocked, unlocked_by, held, valued, with_value}
+use Rattle.id_pool.specs.Ranges.{Slot, Vacant, Retired, Taken, Range, Standing, Free, Held, Ended, Seen, Nothing, Unlocked, Locked, offset, seen, seen_at, seen_in, look, slot_at, change}
+use Rattle.id_pool.specs.Ranges.{change_at, changed, locked, locked_by, unlocked, unlocked_by, held, valued, with_value}
 use Rattle.id_pool.specs.Answers.{lock_says, value_says}
 use Rattle.id_pool.specs.declared.answers.Lock.TheVariants.{Yes}
 use Rattle.sim_run.specs.Slots.{visit, visit_by, touch, touch_by}
@@ -113,7 +114,8 @@ module _ {T : Type 0} where
   locked-visit f (Locked r k waiting) s none = refl
 
   -- Nothing is locked, and nothing is changed.
-  pub visit-nothing : (f : T → T) (id : ℕ) (slots : List (Slot T)) → ((k : ℕ) → lock_says (look id slots) ≢ Yes k) → changed (locked (version_of id)) id slots ≡ changed (visit f (version_of id)) id slots
+  pub visit-nothing : (f : T → T) (id : ℕ) (slots : List (Slot T)) → ((k : ℕ) → lock_says (look id slots) ≢ Yes k)
+      → changed (locked (version_of id)) id slots ≡ changed (visit f (version_of id)) id slots
   visit-nothing f id slots none =
       changed-alike id (locked (version_of id)) (visit f (version_of id)) slots (λ s at. locked-visit f (seen (version_of id) s) s (λ k e. none k (ap lock_says (look-at id slots s at) ∙ e)))
 

@@ -28,7 +28,8 @@ from-all P (x ∷ xs) h = (h 0 x (omega arith), from-all P xs (λ k d less. h (s
 
 -- ---- channels name channels before them
 
-subs-before : (number : ℕ) (subs : List (Sub MapKind MergeKind)) → AllByRecursion (λ (s : Sub MapKind MergeKind). s.chan < number) subs → AreBefore number (map (λ (s : Sub MapKind MergeKind). s.chan) subs)
+subs-before : (number : ℕ) (subs : List (Sub MapKind MergeKind)) → AllByRecursion (λ (s : Sub MapKind MergeKind). s.chan < number) subs
+    → AreBefore number (map (λ (s : Sub MapKind MergeKind). s.chan) subs)
 subs-before number [] h = tt
 subs-before number (s ∷ ss) h = (h.0, subs-before number ss h.1)
 
@@ -59,7 +60,8 @@ none-missing : (missing_of : ℕ → Option ℕ) (numbers : List ℕ) → ((n : 
 none-missing missing_of [] h = refl
 none-missing missing_of (n ∷ ns) h = ap (λ o. or_later o (first_missing missing_of ns)) (h n) ∙ none-missing missing_of ns h
 
-chan-whole : (missing_of : ℕ → Option ℕ) (call servers number : ℕ) (c : Option (Chan MapKind MergeKind)) → ChanIf servers number c → ((n : ℕ) → missing_of n ≡ None) → chan_missing missing_of call c ≡ None
+chan-whole : (missing_of : ℕ → Option ℕ) (call servers number : ℕ) (c : Option (Chan MapKind MergeKind)) → ChanIf servers number c → ((n : ℕ) → missing_of n ≡ None)
+    → chan_missing missing_of call c ≡ None
 chan-whole missing_of call servers number None fit h = refl
 chan-whole missing_of call servers number (Some (chan.Leaf leaf)) fit h = refl
 chan-whole missing_of call servers number (Some (chan.Par par)) fit h = none-missing missing_of (subs_of par) h
@@ -94,11 +96,13 @@ plans-served : (servers : ℕ) (plan_of : ℕ → Option (Plan MapKind MergeKind
 plans-served servers plan_of [] h = tt
 plans-served servers plan_of (n ∷ ns) h = and-served servers (plan_of n) (plans_of plan_of ns) (h n) (plans-served servers plan_of ns h)
 
-known-servers : (servers : ℕ) (test : Tag → Bool) (tags : List Tag) → AllByRecursion (λ (t : Tag). t.server < servers) tags → AllByRecursion (λ s. s < servers) (map (λ (t : Tag). t.server) (filter test tags))
+known-servers : (servers : ℕ) (test : Tag → Bool) (tags : List Tag) → AllByRecursion (λ (t : Tag). t.server < servers) tags
+    → AllByRecursion (λ s. s < servers) (map (λ (t : Tag). t.server) (filter test tags))
 known-servers servers test [] h = tt
 known-servers servers test (t ∷ ts) h = by (test t) (known-servers servers test ts h.1)
   where
-    by : (v : Bool) → AllByRecursion (λ s. s < servers) (map (λ (t : Tag). t.server) (filter test ts)) → AllByRecursion (λ s. s < servers) (map (λ (t : Tag). t.server) (cond v (t ∷ filter test ts) (filter test ts)))
+    by : (v : Bool) → AllByRecursion (λ s. s < servers) (map (λ (t : Tag). t.server) (filter test ts))
+        → AllByRecursion (λ s. s < servers) (map (λ (t : Tag). t.server) (cond v (t ∷ filter test ts) (filter test ts)))
     by true rest = (h.0, rest)
     by false rest = rest
 
@@ -106,7 +110,8 @@ some-server : (part : ℕ) (ss : List ℕ) (later : Option ℕ) → or_missing p
 some-server part [] later e = absurd (cc)
 some-server part (s ∷ ss) later e = (omega arith, e)
 
-parts-served : (servers : ℕ) (part : PartChan MapKind MergeKind) (first count : ℕ) → AllByRecursion (λ (t : Tag). t.server < servers) part.tags → missing_from part first count ≡ None → AreAllServed servers (part_plans part first count)
+parts-served : (servers : ℕ) (part : PartChan MapKind MergeKind) (first count : ℕ) → AllByRecursion (λ (t : Tag). t.server < servers) part.tags → missing_from part first count ≡ None
+    → AreAllServed servers (part_plans part first count)
 parts-served servers part first zero known none = tt
 parts-served servers part first (suc count) known none =
     let ss = servers_of part.tags part.parts first in
@@ -121,17 +126,20 @@ sel-served : (servers : ℕ) (timeout : Option ℕ) (ps : Option (Plans MapKind 
 sel-served servers timeout None h = tt
 sel-served servers timeout (Some ps) h = h
 
-tags-known : (servers : ℕ) (tags : List Tag) → AllByRecursion (λ (tag : Tag). (tag.server < servers) × (tag.part < tag.of) × (tag.of ≤ 1000)) tags → AllByRecursion (λ (t : Tag). t.server < servers) tags
+tags-known : (servers : ℕ) (tags : List Tag) → AllByRecursion (λ (tag : Tag). (tag.server < servers) × (tag.part < tag.of) × (tag.of ≤ 1000)) tags
+    → AllByRecursion (λ (t : Tag). t.server < servers) tags
 tags-known servers [] h = tt
 tags-known servers (t ∷ ts) h = (h.0.0, tags-known servers ts h.1)
 
-chan-served : (plan_of : ℕ → Option (Plan MapKind MergeKind)) (call servers number : ℕ) (c : Option (Chan MapKind MergeKind)) → ChanIf servers number c → ((n : ℕ) → ServedIf servers (plan_of n)) → ServedIf servers (chan_plan plan_of call c)
+chan-served : (plan_of : ℕ → Option (Plan MapKind MergeKind)) (call servers number : ℕ) (c : Option (Chan MapKind MergeKind)) → ChanIf servers number c
+    → ((n : ℕ) → ServedIf servers (plan_of n)) → ServedIf servers (chan_plan plan_of call c)
 chan-served plan_of call servers number None fit h = tt
 chan-served plan_of call servers number (Some (chan.Leaf leaf)) fit h = (fit.some_server, fit.known_servers)
 chan-served plan_of call servers number (Some (chan.Par par)) fit h = par-served servers (rule_of par) (plans_of plan_of (subs_of par)) (plans-served servers plan_of (subs_of par) h)
 chan-served plan_of call servers number (Some (chan.Sel sel)) fit h = sel-served servers sel.timeout (plans_of plan_of (tries sel call)) (plans-served servers plan_of (tries sel call) h)
 chan-served plan_of call servers number (Some (chan.Part part)) fit h =
-    parts-served servers part 0 part.parts (tags-known servers part.tags (from-all (λ (tag : Tag). (tag.server < servers) × (tag.part < tag.of) × (tag.of ≤ 1000)) part.tags fit.known_servers)) fit.no_part_missing
+    parts-served servers part 0 part.parts (tags-known servers part.tags
+    (from-all (λ (tag : Tag). (tag.server < servers) × (tag.part < tag.of) × (tag.of ≤ 1000)) part.tags fit.known_servers)) fit.no_part_missing
 
 served-within : (depth servers : ℕ) (chans : List (Chan MapKind MergeKind)) (call number : ℕ) → AreChans servers 0 chans → ServedIf servers (plan_within depth chans call number)
 served-within zero servers chans call number h = tt
@@ -139,5 +147,6 @@ served-within (suc depth) servers chans call number h =
     let at = chan-at servers 0 chans number h in
     chan-served (plan_within depth chans call) call servers at.0 (slice_get chans number) at.1 (λ n. served-within depth servers chans call n h)
 
-pub plan-served : (servers : ℕ) (chans : List (Chan MapKind MergeKind)) (number call : ℕ) (p : Plan MapKind MergeKind) → AreChans servers 0 chans → plan chans number call ≡ Some p → AreServed servers p
+pub plan-served : (servers : ℕ) (chans : List (Chan MapKind MergeKind)) (number call : ℕ) (p : Plan MapKind MergeKind) → AreChans servers 0 chans → plan chans number call ≡ Some p
+    → AreServed servers p
 plan-served servers chans number call p h e = subst (ServedIf servers) e (served-within (suc number) servers chans call number h)

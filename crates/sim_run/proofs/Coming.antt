@@ -1,5 +1,6 @@
 -- After how many calls the plans of a channel come round again, and plans that are kept.
-use Rattle.std.proofs.Common.{◌≡◌, ◌≢◌, ℕ, zero, suc, ◌+◌, ◌*◌, ◌%◌, ◌<◌, ◌≤◌, List, [], ◌∷◌, ◌++◌, length, take, get_or, set, map, slice_get, slice_index, nat_eq, Bool, true, false, Option, Some, None, arith, refl, ap, sym, ◌∙◌, subst}
+use Rattle.std.proofs.Common.{◌≡◌, ◌≢◌, ℕ, zero, suc, ◌+◌, ◌*◌, ◌%◌, ◌<◌, ◌≤◌, List, [], ◌∷◌, ◌++◌, length, take, get_or, set, map, slice_get, slice_index, nat_eq, Bool, true, false, Option}
+use Rattle.std.proofs.Common.{Some, None, arith, refl, ap, sym, ◌∙◌, subst}
 use Rattle.std.specs.List.{AllByRecursion}
 use Rattle.std.proofs.Math.Nat.{mod-zero, mod-mod_of_dvd, mod-add-mod}
 use Rattle.std.proofs.Math.Seq.{take-suc}
@@ -42,14 +43,17 @@ multiple round part more h k = finer round part more 0 k (h ∙ sym (zero-rest r
 -- ---- a common multiple of the numbers of subs
 
 -- One more sub.
-pub over-next : {X : Type 0} (number : X → ℕ) (xs : List X) (i : ℕ) (d : X) (old new : ℕ) → i < length xs → new % old ≡ 0 → new % number (get_or xs i d) ≡ 0 → AllByRecursion (λ x. old % number x ≡ 0) (take i xs)
+pub over-next : {X : Type 0} (number : X → ℕ) (xs : List X) (i : ℕ) (d : X) (old new : ℕ) → i < length xs → new % old ≡ 0 → new % number (get_or xs i d) ≡ 0
+    → AllByRecursion (λ x. old % number x ≡ 0) (take i xs)
     → AllByRecursion (λ x. new % number x ≡ 0) (take (i + 1) xs)
 over-next number xs i d old new less all last h =
     let one : i + 1 ≡ suc i = omega arith in
     rw (one, take-suc xs i d less)
-    (all_append (λ x. new % number x ≡ 0) (take i xs) (get_or xs i d ∷ []) (all_weaker (λ x. old % number x ≡ 0) (λ x. new % number x ≡ 0) (λ x k. multiple old (number x) new all k) (take i xs) h) (last, tt))
+    (all_append (λ x. new % number x ≡ 0) (take i xs) (get_or xs i d ∷ [])
+    (all_weaker (λ x. old % number x ≡ 0) (λ x. new % number x ≡ 0) (λ x k. multiple old (number x) new all k) (take i xs) h) (last, tt))
 
-pub over-numbers : (rounds : List ℕ) (subs : List (Sub MapKind MergeKind)) (round : ℕ) → AllByRecursion (λ (s : Sub MapKind MergeKind). round % get_or rounds s.chan 0 ≡ 0) subs → IsOver rounds (numbers_of subs) round
+pub over-numbers : (rounds : List ℕ) (subs : List (Sub MapKind MergeKind)) (round : ℕ) → AllByRecursion (λ (s : Sub MapKind MergeKind). round % get_or rounds s.chan 0 ≡ 0) subs
+    → IsOver rounds (numbers_of subs) round
 over-numbers rounds [] round h = tt
 over-numbers rounds (s ∷ subs) round h = (h.0, over-numbers rounds subs round h.1)
 
@@ -86,7 +90,8 @@ module _ (chans : List (Chan MapKind MergeKind)) (sound : AreSound 0 chans) (rou
   agree round a b subs same over =
       all_weaker (λ s. round % get_or rounds s 0 ≡ 0) (λ s. plan chans s a ≡ plan chans s b) (λ s d. come s a b (finer round (get_or rounds s 0) a b d same)) subs over
 
-  chan-round : (number : ℕ) (c : Chan MapKind MergeKind) (round a b : ℕ) → IsSound number c → IsRound rounds c round → a % round ≡ b % round → chan_plan (λ s. plan chans s a) a (Some c) ≡ chan_plan (λ s. plan chans s b) b (Some c)
+  chan-round : (number : ℕ) (c : Chan MapKind MergeKind) (round a b : ℕ) → IsSound number c → IsRound rounds c round → a % round ≡ b % round
+      → chan_plan (λ s. plan chans s a) a (Some c) ≡ chan_plan (λ s. plan chans s b) b (Some c)
   chan-round number (chan.Leaf leaf) round a b fit is same = refl
   chan-round number (chan.Par par) round a b fit is same = ap (par_over (rule_of par)) (plans-agree (λ s. plan chans s a) (λ s. plan chans s b) (subs_of par) (agree round a b (subs_of par) same is))
   chan-round number (chan.Sel sel) round a b fit is same =
@@ -132,7 +137,8 @@ set-other (x ∷ xs) (suc i) (suc j) y differ = set-other xs i j y (λ e. differ
 -- ---- plans that are kept
 
 -- No plan stands at one more place.
-pub none-pushed : (xs : List (Option Shared)) → ((place : ℕ) (shared : Shared) → slice_get xs place ≢ Some (Some shared)) → (place : ℕ) (shared : Shared) → slice_get (xs ++ None ∷ []) place ≢ Some (Some shared)
+pub none-pushed : (xs : List (Option Shared)) → ((place : ℕ) (shared : Shared) → slice_get xs place ≢ Some (Some shared)) → (place : ℕ) (shared : Shared)
+    → slice_get (xs ++ None ∷ []) place ≢ Some (Some shared)
 none-pushed [] h zero shared e = cc
 none-pushed [] h (suc place) shared e = cc
 none-pushed (x ∷ xs) h zero shared e = h zero shared e
@@ -140,14 +146,16 @@ none-pushed (x ∷ xs) h (suc place) shared e = none-pushed xs (λ p. h (suc p))
 
 -- A plan is put where that of its call's rest stands.
 pub kept-more : (chans : List (Chan MapKind MergeKind)) (old new : Plans) (place number rest call : ℕ) (shared : Shared) → IsPlanned chans old → new.rounds.items ≡ old.rounds.items
-    → new.kept.items ≡ set old.kept.items place (Some shared) → place ≡ 16 * number + rest → rest < 16 → rest ≡ call % get_or old.rounds.items number 0 → plan chans number call ≡ Some (arc_value shared.plan) → IsPlanned chans new
+    → new.kept.items ≡ set old.kept.items place (Some shared) → place ≡ 16 * number + rest → rest < 16 → rest ≡ call % get_or old.rounds.items number 0
+    → plan chans number call ≡ Some (arc_value shared.plan) → IsPlanned chans new
 kept-more chans old new place number rest call shared h same put there low rests planned = record {
   rounds = rw same h.rounds;
   kept = λ p n r k s at is small left.
       by p n r k s (nat_eq p place) refl (sym (ap (λ xs. slice_get xs p) put) ∙ at) is small (sym (ap (λ rs. k % get_or rs n 0) same) ∙ left);
 }
   where
-    by : (p n r k : ℕ) (s : Shared) (b : Bool) → nat_eq p place ≡ b → slice_get (set old.kept.items place (Some shared)) p ≡ Some (Some s) → p ≡ 16 * n + r → r < 16 → k % get_or old.rounds.items n 0 ≡ r
+    by : (p n r k : ℕ) (s : Shared) (b : Bool) → nat_eq p place ≡ b → slice_get (set old.kept.items place (Some shared)) p ≡ Some (Some s) → p ≡ 16 * n + r → r < 16
+        → k % get_or old.rounds.items n 0 ≡ r
         → plan chans n k ≡ Some (arc_value s.plan)
     by p n r k s true e at is small left =
         let here : p ≡ place = eqb-true p place e in
@@ -164,13 +172,16 @@ rest-low : (call round : ℕ) → 1 ≤ round → round ≤ 16 → call % round 
 rest-low call round some few = let less : call % round < round = grind (arith, some) in omega (arith, less, few)
 
 -- What stands at a call's place is its plan.
-pub found-kept : (chans : List (Chan MapKind MergeKind)) (plans : Plans) (place number call round : ℕ) (shared : Shared) → IsPlanned chans plans → round ≡ get_or plans.rounds.items number 0 → 1 ≤ round → round ≤ 16
+pub found-kept : (chans : List (Chan MapKind MergeKind)) (plans : Plans) (place number call round : ℕ) (shared : Shared) → IsPlanned chans plans → round ≡ get_or plans.rounds.items number 0
+    → 1 ≤ round → round ≤ 16
     → place ≡ 16 * number + call % round → slice_get plans.kept.items place ≡ Some (Some shared) → plan chans number call ≡ Some (arc_value shared.plan)
 found-kept chans plans place number call round shared h same some few there at =
     h.kept place number (call % round) call shared at there (rest-low call round some few) (ap (λ r. call % r) (sym same))
 
 -- A call's plan is put at its place.
-pub put-kept : (chans : List (Chan MapKind MergeKind)) (old new : Plans) (place number call round : ℕ) (shared : Shared) → IsPlanned chans old → round ≡ get_or old.rounds.items number 0 → 1 ≤ round → round ≤ 16
-    → place ≡ 16 * number + call % round → new.rounds.items ≡ old.rounds.items → new.kept.items ≡ set old.kept.items place (Some shared) → plan chans number call ≡ Some (arc_value shared.plan) → IsPlanned chans new
+pub put-kept : (chans : List (Chan MapKind MergeKind)) (old new : Plans) (place number call round : ℕ) (shared : Shared) → IsPlanned chans old → round ≡ get_or old.rounds.items number 0
+    → 1 ≤ round → round ≤ 16
+    → place ≡ 16 * number + call % round → new.rounds.items ≡ old.rounds.items → new.kept.items ≡ set old.kept.items place (Some shared)
+    → plan chans number call ≡ Some (arc_value shared.plan) → IsPlanned chans new
 put-kept chans old new place number call round shared h same some few there rounds put planned =
     kept-more chans old new place number (call % round) call shared h rounds put there (rest-low call round some few) (ap (λ r. call % r) same) planned

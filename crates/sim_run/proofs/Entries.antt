@@ -1,5 +1,6 @@
 -- One call's step among all calls: its standing changes, and no other does.
-use Rattle.std.proofs.Common.{◌≡◌, ◌≢◌, ℕ, zero, suc, ◌+◌, ◌==◌, ◌⊎◌, inl, inr, Bool, true, false, cond, nat_eq, List, [], ◌∷◌, ◌++◌, slice_get, find, count_by, Option, None, Some, ap, sym, refl, ◌∙◌, subst, arith, if◌then◌else◌}
+use Rattle.std.proofs.Common.{◌≡◌, ◌≢◌, ℕ, zero, suc, ◌+◌, ◌==◌, ◌⊎◌, inl, inr, Bool, true, false, cond, nat_eq, List, [], ◌∷◌, ◌++◌, slice_get, find, count_by, Option, None, Some, ap, sym}
+use Rattle.std.proofs.Common.{refl, ◌∙◌, subst, arith, if◌then◌else◌}
 use Rattle.std.proofs.lemmas.Bool.{eqb-true, eqb-false, eq-eqb, ne_eqb}
 use Rattle.std.proofs.lemmas.Bool.Decides.{eqb_tells, nat_tests}
 use Rattle.std.proofs.lemmas.List.Sums.{sum_by-cons}
@@ -171,7 +172,8 @@ change_first-nothing test f (x ∷ xs) h =
     (λ e. change_first-nothing test f xs (λ y found. h y (ap (λ b. if b then Some x else find test xs) e ∙ found)))
 
 -- What holds of each entry holds of the one that a look-up finds.
-pub entry-of : (P : Option Ticket → Type 0) (call : ℕ) (o : Option Ticket) (entries : List (ℕ × Option Ticket)) → AllByRecursion (λ entry. P entry.1) entries → lookup (nat_eq call) entries ≡ Some o → P o
+pub entry-of : (P : Option Ticket → Type 0) (call : ℕ) (o : Option Ticket) (entries : List (ℕ × Option Ticket)) → AllByRecursion (λ entry. P entry.1) entries
+    → lookup (nat_eq call) entries ≡ Some o → P o
 entry-of P call o [] all e = absurd (cc)
 entry-of P call o ((number, x) ∷ xs) all e = elim (found_if (nat_eq call number) x o (lookup (nat_eq call) xs) e) [
   | inl here ↦ subst P here.1 all.0
@@ -180,7 +182,8 @@ entry-of P call o ((number, x) ∷ xs) all e = elim (found_if (nat_eq call numbe
 
 -- ---- look-ups in one entry more
 
-pub lookup-more : (key : ℕ) (x : Option Ticket) (last : ℕ × Option Ticket) (entries : List (ℕ × Option Ticket)) → lookup (nat_eq key) entries ≡ Some x → lookup (nat_eq key) (entries ++ last ∷ []) ≡ Some x
+pub lookup-more : (key : ℕ) (x : Option Ticket) (last : ℕ × Option Ticket) (entries : List (ℕ × Option Ticket)) → lookup (nat_eq key) entries ≡ Some x
+    → lookup (nat_eq key) (entries ++ last ∷ []) ≡ Some x
 lookup-more key x last [] e = absurd (cc)
 lookup-more key x last ((number, o) ∷ xs) e = elim (found_if (nat_eq key number) o x (lookup (nat_eq key) xs) e) [
   | inl here ↦ ap (λ b. if b then Some o else lookup (nat_eq key) (xs ++ last ∷ [])) here.0 ∙ ap Some here.1
@@ -219,7 +222,8 @@ count-change_first p test f (x ∷ xs) y e = elim (found_if (test x) x y (find t
 ]
 
 -- The same of a slot.
-pub count-change : {T : Type 0} (p : Slot T → Bool) (i : ℕ) (f : Slot T → Slot T) (slots : List (Slot T)) (s : Slot T) → slice_get slots i ≡ Some s → count_by p (change i f slots) + one (p s) ≡ count_by p slots + one (p (f s))
+pub count-change : {T : Type 0} (p : Slot T → Bool) (i : ℕ) (f : Slot T → Slot T) (slots : List (Slot T)) (s : Slot T) → slice_get slots i ≡ Some s
+    → count_by p (change i f slots) + one (p s) ≡ count_by p slots + one (p (f s))
 count-change p i f [] s e = absurd (cc)
 count-change p zero f (x ∷ xs) s e =
     let same : x ≡ s = cc in
@@ -234,7 +238,8 @@ count-change p (suc i) f (x ∷ xs) s e =
     omega (arith, c, d, h)
 
 -- What holds of each slot holds of each after a change that keeps it.
-pub All-change : {T : Type 0} (P : Slot T → Type 0) (i : ℕ) (f : Slot T → Slot T) (slots : List (Slot T)) → AllByRecursion P slots → ((s : Slot T) → slice_get slots i ≡ Some s → P s → P (f s)) → AllByRecursion P (change i f slots)
+pub All-change : {T : Type 0} (P : Slot T → Type 0) (i : ℕ) (f : Slot T → Slot T) (slots : List (Slot T)) → AllByRecursion P slots
+    → ((s : Slot T) → slice_get slots i ≡ Some s → P s → P (f s)) → AllByRecursion P (change i f slots)
 All-change P i f [] h step = tt
 All-change P zero f (x ∷ xs) h step = (step x refl h.0, h.1)
 All-change P (suc i) f (x ∷ xs) h step = (h.0, All-change P i f xs h.1 step)
@@ -246,7 +251,8 @@ slot-of-all P zero (x ∷ xs) s h e = let same : x ≡ s = cc in subst P same h.
 slot-of-all P (suc i) (x ∷ xs) s h e = slot-of-all P i xs s h.1 e
 
 -- The entry that a look-up finds is known.
-pub known-of : (slots : List (Slot Begun)) (call : ℕ) (o : Option Ticket) (entries : List (ℕ × Option Ticket)) → AllByRecursion (λ entry. IsKnown slots entry.0 entry.1) entries → lookup (nat_eq call) entries ≡ Some o → IsKnown slots call o
+pub known-of : (slots : List (Slot Begun)) (call : ℕ) (o : Option Ticket) (entries : List (ℕ × Option Ticket)) → AllByRecursion (λ entry. IsKnown slots entry.0 entry.1) entries
+    → lookup (nat_eq call) entries ≡ Some o → IsKnown slots call o
 known-of slots call o [] known e = absurd (cc)
 known-of slots call o ((number, x) ∷ xs) known e = elim (found_if (nat_eq call number) x o (lookup (nat_eq call) xs) e) [
   | inl here ↦ subst (λ y. IsKnown slots call y) here.1 (subst (λ c. IsKnown slots c x) (sym (eqb-true call number here.0)) known.0)

@@ -78,7 +78,8 @@ abbrev pub total_left : List (Slot Begun) → ℕ
 total_left [] = 0
 total_left (s ∷ ss) = left_in s + total_left ss
 
-pub total-change : (i : ℕ) (g : Slot Begun → Slot Begun) (slots : List (Slot Begun)) (s : Slot Begun) → slice_get slots i ≡ Some s → total_left (change i g slots) + left_in s ≡ total_left slots + left_in (g s)
+pub total-change : (i : ℕ) (g : Slot Begun → Slot Begun) (slots : List (Slot Begun)) (s : Slot Begun) → slice_get slots i ≡ Some s
+    → total_left (change i g slots) + left_in s ≡ total_left slots + left_in (g s)
 total-change i g [] s e = absurd (cc)
 total-change zero g (x ∷ xs) s e =
     let same : x ≡ s = cc in

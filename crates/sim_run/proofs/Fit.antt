@@ -107,7 +107,8 @@ finish-fit : (n count reached : ℕ) (b : Begun) → IsFit n b → IsFit n (fini
 finish-fit n zero reached b fit = fit
 finish-fit n (suc count) reached b fit = at (is_some (end_of b.state)) (λ r c h. finish-fit n count r c h)
   where
-    by : (o : Option (Mark × List Mark)) → least_mark b.waiting ≡ o → ((r : ℕ) (c : Begun) → IsFit n c → IsFit n (finish_at_most count r c).1) → IsFit n (finish_least (finish_at_most count) reached b o).1
+    by : (o : Option (Mark × List Mark)) → least_mark b.waiting ≡ o → ((r : ℕ) (c : Begun) → IsFit n c → IsFit n (finish_at_most count r c).1)
+        → IsFit n (finish_least (finish_at_most count) reached b o).1
     by None e again = fit
     by (Some (mark, others)) e again = again (max reached mark.moment) (take_mark b mark others) (taken-fit n b mark others e fit)
 
@@ -157,9 +158,12 @@ weave-rest-at n (suc count) moment b few fit = by (least_mark b.waiting) refl (�
 
     first : (ws : List Mark) (mark : Mark) (others : List Mark) → least_mark ws ≡ Some (mark, others) → IsSorted ws → moment < mark.moment → AllByRecursion (λ (x : Mark). moment < x.moment) ws
     first [] mark others e s late = absurd (cc)
-    first (w ∷ ws) mark others e s late = let pair : (w, ws) ≡ (mark, others) = cc in let same : w ≡ mark = ap (λ (p : Mark × List Mark). p.0) pair in let at : moment < w.moment = (let m = ap (λ (x : Mark). x.moment) same in omega (arith, late, m)) in rest-late moment w ws at s
+    first (w ∷ ws) mark others e s late =
+        let pair : (w, ws) ≡ (mark, others) = cc in let same : w ≡ mark = ap (λ (p : Mark × List Mark). p.0) pair in let at : moment <
+        w.moment = (let m = ap (λ (x : Mark). x.moment) same in omega (arith, late, m)) in rest-late moment w ws at s
 
-    by : (o : Option (Mark × List Mark)) → least_mark b.waiting ≡ o → ((c : Begun) → marks_left c ≤ count → IsFit n c → AllByRecursion (λ (x : Mark). moment < x.moment) (weave_at_most count moment c).waiting)
+    by : (o : Option (Mark × List Mark)) → least_mark b.waiting ≡ o
+        → ((c : Begun) → marks_left c ≤ count → IsFit n c → AllByRecursion (λ (x : Mark). moment < x.moment) (weave_at_most count moment c).waiting)
         → AllByRecursion (λ (x : Mark). moment < x.moment) (weave_least (weave_at_most count moment) moment b o).waiting
     by None e again = none b.waiting e
     by (Some (mark, others)) e again = at (nat_le mark.moment moment) refl

@@ -27,35 +27,45 @@ pub record JoinMarks (slots after : List (Slot Begun)) (marks : List Mark) (entr
   pub owned : AreOwned entries marks
 
 marked-if : (o : Option End) (reached i : ℕ) (slots : List (Slot Begun)) (r : Range Begun) (g : Slot Begun → Slot Begun) (a : Acting) → a.call ≡ r.value → IsFit r.size r.value
-    → r.first + r.size ≤ 2 ^ 32 - 1024 → slice_get slots i ≡ Some (Taken r) → g (Taken r) ≡ joined_to o (finished reached r.value) r → AreMarked a.marks slots → AreMarked (joined_by reached (make_id i r.first) a).marks (change i g slots)
+    → r.first + r.size ≤ 2 ^ 32 - 1024 → slice_get slots i ≡ Some (Taken r) → g (Taken r) ≡ joined_to o (finished reached r.value) r → AreMarked a.marks slots
+    → AreMarked (joined_by reached (make_id i r.first) a).marks (change i g slots)
 marked-if None reached i slots r g a own fit low at is marked =
     let b = joined_by reached (make_id i r.first) a in
     let call : b.call ≡ finished reached r.value = joined-call reached (make_id i r.first) a ∙ ap (finished reached) own in
     let kept = joined-marked r.size reached (make_id i r.first) a (subst (IsFit r.size) (sym own) fit) in
     let mine : HasMarks (make_id i r.first) a.call.waiting a.marks = subst (λ (c : Begun). HasMarks (make_id i r.first) c.waiting a.marks) (sym own) (marked i r at) in
-    let done : HasMarks (make_id i r.first) (finished reached r.value).waiting b.marks = subst (λ (c : Begun). HasMarks (make_id i r.first) c.waiting b.marks) call (marks-own r.size (make_id i r.first) a b kept mine) in
+    let done : HasMarks (make_id i r.first) (finished reached r.value).waiting b.marks =
+    subst (λ (c : Begun). HasMarks (make_id i r.first) c.waiting b.marks) call (marks-own r.size (make_id i r.first) a b kept mine) in
     marked-step slots i r (visited r (finished reached r.value)) g a b at is refl done kept.others (λ j x differ there. marked j x there)
 marked-if (Some e) reached i slots r g a own fit low at is marked =
     let b = joined_by reached (make_id i r.first) a in
     let kept = joined-marked r.size reached (make_id i r.first) a (subst (IsFit r.size) (sym own) fit) in
     marked-left slots i (r.first + r.size) r g a b at (is ∙ left_by-low r low) kept.others marked
 
-pub join-marked : (reached : ℕ) (slots : List (Slot Begun)) (wires : List Link) (marks : List Mark) (entries : List (ℕ × Option Ticket)) (call : ℕ) (ticket : Ticket) → IsSound slots entries → length entries ≤ 500000 → lookup (nat_eq call) entries ≡ Some (Some ticket)
-    → AreMarked marks slots → AreOwned entries marks → JoinMarks slots (changed (join reached (version_of ticket.first)) ticket.first slots) (acts_by ticket.first (joined_by reached) (look ticket.first slots) wires marks).1 entries
+pub join-marked : (reached : ℕ) (slots : List (Slot Begun)) (wires : List Link) (marks : List Mark) (entries : List (ℕ × Option Ticket)) (call : ℕ) (ticket : Ticket) → IsSound slots entries
+    → length entries ≤ 500000 → lookup (nat_eq call) entries ≡ Some (Some ticket)
+    → AreMarked marks slots → AreOwned entries marks
+    → JoinMarks slots (changed (join reached (version_of ticket.first)) ticket.first slots) (acts_by ticket.first (joined_by reached) (look ticket.first slots) wires marks).1 entries
 join-marked reached slots wires marks entries call ticket sound few at marked owned = by (value_says (look ticket.first slots)) refl
   where
     zero_more : ticket.first + 0 ≡ ticket.first
     zero_more = omega arith
 
-    by : (x : Option Begun) → value_says (look ticket.first slots) ≡ x → JoinMarks slots (changed (join reached (version_of ticket.first)) ticket.first slots) (acts_by ticket.first (joined_by reached) (look ticket.first slots) wires marks).1 entries
+    by : (x : Option Begun) → value_says (look ticket.first slots) ≡ x
+        → JoinMarks slots (changed (join reached (version_of ticket.first)) ticket.first slots) (acts_by ticket.first (joined_by reached) (look ticket.first slots) wires marks).1 entries
     by None none =
         let known = known-of slots call (Some ticket) entries sound.known at in
         let o = is-over slots call ticket (most entries) known sound.open_slots (omega (arith, few)) none in
         let there = over-look slots ticket o 0 known.0 in
         let nothing : look ticket.first slots ≡ Nothing = subst (λ id. look id slots ≡ Nothing) zero_more (look-at (ticket.first + 0) slots o.slot there.0 ∙ there.1) in
-        let same = subst (λ id. changed (join reached (version_of id)) id slots ≡ slots) zero_more (over-nothing slots ticket o 0 (λ v. join reached v) known.0 (λ v s e. ap (λ x. join_by reached x s) e)) in
+        let same =
+        subst (λ id. changed (join reached (version_of id)) id slots ≡ slots) zero_more (over-nothing slots ticket o 0 (λ v. join reached v) known.0 (λ v s e. ap (λ x. join_by reached x s) e)) in
         let silent : (acts_by ticket.first (joined_by reached) (look ticket.first slots) wires marks).1 ≡ marks = ap (λ x. (acts_by ticket.first (joined_by reached) x wires marks).1) nothing in
-        record { marked = subst (λ ss. AreMarked (acts_by ticket.first (joined_by reached) (look ticket.first slots) wires marks).1 ss) (sym same) (subst (λ ms. AreMarked ms slots) (sym silent) marked); owned = subst (AreOwned entries) (sym silent) owned }
+        record {
+          marked = subst (λ ss. AreMarked (acts_by ticket.first (joined_by reached) (look ticket.first slots) wires marks).1 ss) (sym same)
+              (subst (λ ms. AreMarked ms slots) (sym silent) marked);
+          owned = subst (AreOwned entries) (sym silent) owned;
+        }
     by (Some b) value =
         let known = known-of slots call (Some ticket) entries sound.known at in
         let l = lives slots call ticket b (most entries) known sound.open_slots value in
@@ -76,6 +86,7 @@ join-marked reached slots wires marks entries call ticket sound few at marked ow
         let step = marked-if (end_of (finished reached l.r.value).state) reached l.slot slots l.r g a refl top.fit (omega (arith, below, few)) l.at is marked in
         let kept = joined-marked l.r.size reached id a top.fit in
         record {
-          marked = subst (λ ss. AreMarked (acts_by ticket.first (joined_by reached) (look ticket.first slots) wires marks).1 ss) (sym same) (subst (λ ms. AreMarked ms (change l.slot g slots)) (sym out) step);
+          marked = subst (λ ss. AreMarked (acts_by ticket.first (joined_by reached) (look ticket.first slots) wires marks).1 ss) (sym same)
+              (subst (λ ms. AreMarked ms (change l.slot g slots)) (sym out) step);
           owned = subst (AreOwned entries) (sym out) (kept.ids (IsOwned entries) (own-ids entries call ticket at l.width it.own) owned);
         }

@@ -31,9 +31,11 @@ use Rattle.sim_run.proofs.JoinSteps.{JoinFollows, join-moved, join-full, join-ab
 pub join-replay : (old new : Replay) (call : ℕ) → Follows old.pool new.pool old.calls.entries call (spec.joined old.reached) → new.calls ≡ old.calls
     → new.reached ≡ spec.joined_moment old.reached (find (spec.is_call call) (standings old.pool old.calls.entries)) → replay_of new ≡ spec.call_join (replay_of old) call
 join-replay old new call follows calls reached =
-    rw (calls, reached) (ap (λ (ss : List spec.Standing). record { reached = spec.joined_moment old.reached (find (spec.is_call call) (standings old.pool old.calls.entries)); calls = ss }) follows.stands)
+    rw (calls, reached) (ap (λ (ss : List spec.Standing). record { reached = spec.joined_moment old.reached (find (spec.is_call call) (standings old.pool old.calls.entries)); calls = ss })
+    follows.stands)
 
-idle : (script : Script) (old : Replay) (call : ℕ) → IsReady script old → ((ticket : Ticket) → lookup (nat_eq call) old.calls.entries ≢ Some (Some ticket)) → Follows old.pool old.pool old.calls.entries call (spec.joined old.reached)
+idle : (script : Script) (old : Replay) (call : ℕ) → IsReady script old → ((ticket : Ticket) → lookup (nat_eq call) old.calls.entries ≢ Some (Some ticket))
+    → Follows old.pool old.pool old.calls.entries call (spec.joined old.reached)
 idle script old call ready none = record {
   stands = join-idle old.reached old.pool old.calls.entries call ready.sound.known none;
   sound = ready.sound;
@@ -67,13 +69,17 @@ joins-full script old call ready full =
     }
 
 -- The call has a ticket.
-pub joins-ticket : (script : Script) (old : Replay) (call : ℕ) (ticket : Ticket) → IsReady script old → length old.calls.entries ≤ 500000 → Some (Some ticket) ≡ lookup (nat_eq call) old.calls.entries → JoinFollows old.reached old.pool old.calls.entries call ticket.first
+pub joins-ticket : (script : Script) (old : Replay) (call : ℕ) (ticket : Ticket) → IsReady script old → length old.calls.entries ≤ 500000
+    → Some (Some ticket) ≡ lookup (nat_eq call) old.calls.entries → JoinFollows old.reached old.pool old.calls.entries call ticket.first
 joins-ticket script old call ticket ready few found = join-moved old.reached old.pool old.calls.entries call ticket ready.sound few (sym found)
 
 -- What such a join leaves of slots and marks.
-pub join-brings : (script : Script) (old : Replay) (after : List (Slot Begun)) (wires : List Link) (marks : List Mark) (call : ℕ) (ticket : Ticket) → IsReady script old → length old.calls.entries ≤ 500000 → Some (Some ticket) ≡ lookup (nat_eq call) old.calls.entries
-    → Follows old.pool (changed (join old.reached (version_of ticket.first)) ticket.first old.pool) old.calls.entries call (spec.joined old.reached) → after ≡ changed (join old.reached (version_of ticket.first)) ticket.first old.pool
-    → (wires, marks) ≡ acts_by ticket.first (joined_by old.reached) (look ticket.first old.pool) old.wires.items old.marks → Brings old.pool after marks old.calls.entries call (spec.joined old.reached)
+pub join-brings : (script : Script) (old : Replay) (after : List (Slot Begun)) (wires : List Link) (marks : List Mark) (call : ℕ) (ticket : Ticket) → IsReady script old
+    → length old.calls.entries ≤ 500000 → Some (Some ticket) ≡ lookup (nat_eq call) old.calls.entries
+    → Follows old.pool (changed (join old.reached (version_of ticket.first)) ticket.first old.pool) old.calls.entries call (spec.joined old.reached)
+    → after ≡ changed (join old.reached (version_of ticket.first)) ticket.first old.pool
+    → (wires, marks) ≡ acts_by ticket.first (joined_by old.reached) (look ticket.first old.pool) old.wires.items old.marks
+    → Brings old.pool after marks old.calls.entries call (spec.joined old.reached)
 join-brings script old after wires marks call ticket ready few found follows is out =
     let set : marks ≡ (acts_by ticket.first (joined_by old.reached) (look ticket.first old.pool) old.wires.items old.marks).1 = ap (λ (p : List Link × List Mark). p.1) out in
     let left = join-marked old.reached old.pool old.wires.items old.marks old.calls.entries call ticket ready.sound few (sym found) ready.marked ready.owned in
@@ -88,14 +94,19 @@ join-works slots ticket reached = record {
 }
 
 -- What such a join leaves of the wires.
-pub join-wired : (script : Script) (old : Replay) (after : List (Slot Begun)) (wires : List Link) (marks : List Mark) (call : ℕ) (ticket : Ticket) → IsReady script old → length old.calls.entries ≤ 500000 → Some (Some ticket) ≡ lookup (nat_eq call) old.calls.entries
-    → Follows old.pool after old.calls.entries call (spec.joined old.reached) → (wires, marks) ≡ acts_by ticket.first (joined_by old.reached) (look ticket.first old.pool) old.wires.items old.marks → AreWired script.servers after old.calls.entries wires
+pub join-wired : (script : Script) (old : Replay) (after : List (Slot Begun)) (wires : List Link) (marks : List Mark) (call : ℕ) (ticket : Ticket) → IsReady script old
+    → length old.calls.entries ≤ 500000 → Some (Some ticket) ≡ lookup (nat_eq call) old.calls.entries
+    → Follows old.pool after old.calls.entries call (spec.joined old.reached)
+    → (wires, marks) ≡ acts_by ticket.first (joined_by old.reached) (look ticket.first old.pool) old.wires.items old.marks → AreWired script.servers after old.calls.entries wires
 join-wired script old after wires marks call ticket ready few found follows out =
     let known = known-of old.pool call (Some ticket) old.calls.entries ready.sound.known (sym found) in
     let same : ticket.first + 0 ≡ ticket.first = omega arith in
     let d = joined_by old.reached in
     let set : wires ≡ (acts_by ticket.first d (look ticket.first old.pool) old.wires.items old.marks).0 = ap (λ (p : List Link × List Mark). p.0) out in
-    let w = wired-acts script.servers old.pool after old.calls.entries old.wires.items old.marks call 0 ticket d (finished old.reached) (spec.joined old.reached) (join-works old.pool ticket old.reached) ready.sound few (sym found) known.0 (entry-of (IsServedIn script.servers) call (Some ticket) old.calls.entries ready.served (sym found)) follows ready.wired in
+    let w =
+    wired-acts script.servers old.pool after old.calls.entries old.wires.items old.marks call 0 ticket d (finished old.reached) (spec.joined old.reached)
+    (join-works old.pool ticket old.reached) ready.sound few (sym found) known.0 (entry-of (IsServedIn script.servers) call (Some ticket) old.calls.entries ready.served (sym found))
+    follows ready.wired in
     rw set (subst (λ id. AreWired script.servers after old.calls.entries (acts_by id d (look id old.pool) old.wires.items old.marks).0) same w)
 
 -- A join of a call that has a ticket reaches what the plain machine's does.

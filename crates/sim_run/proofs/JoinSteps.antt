@@ -40,20 +40,24 @@ pub record JoinFollows (reached : ℕ) (slots : List (Slot Begun)) (entries : Li
   pub tells : join_tells reached (find (is_call call) (standings slots entries)) ≡ tells_or call (join_says reached (look first slots)) ∷ []
 
 -- what the first id of a call finds that has begun and wasn't told
-pub first-finds : (slots : List (Slot Begun)) (range : Ticket) (b : Begun) (bound : ℕ) (l : Lives slots range b) → AllByRecursion (IsSlot bound) slots → bound < 2 ^ 32 → 1 ≤ width_of range → seen (version_of range.first) (Taken l.r) ≡ Unlocked l.r 0
+pub first-finds : (slots : List (Slot Begun)) (range : Ticket) (b : Begun) (bound : ℕ) (l : Lives slots range b) → AllByRecursion (IsSlot bound) slots → bound < 2 ^ 32 → 1 ≤ width_of range
+    → seen (version_of range.first) (Taken l.r) ≡ Unlocked l.r 0
 first-finds slots range b bound l open_ low some =
     let same : range.first + 0 ≡ range.first = omega arith in
     subst (λ id. seen (version_of id) (Taken l.r) ≡ Unlocked l.r 0) same (finds-in slots range b bound 0 l open_ low some).1
 
-pub first-looks : (slots : List (Slot Begun)) (range : Ticket) (b : Begun) (bound : ℕ) (l : Lives slots range b) → AllByRecursion (IsSlot bound) slots → bound < 2 ^ 32 → 1 ≤ width_of range → look range.first slots ≡ Unlocked l.r 0
+pub first-looks : (slots : List (Slot Begun)) (range : Ticket) (b : Begun) (bound : ℕ) (l : Lives slots range b) → AllByRecursion (IsSlot bound) slots → bound < 2 ^ 32 → 1 ≤ width_of range
+    → look range.first slots ≡ Unlocked l.r 0
 first-looks slots range b bound l open_ low some = look-at range.first slots (Taken l.r) (ap (λ o. slot_at o slots) l.here ∙ l.at) ∙ first-finds slots range b bound l open_ low some
 
 pub left_by-low : (r : Range Begun) → r.first + r.size ≤ 2 ^ 32 - 1024 → left_by r ≡ Vacant (r.first + r.size)
 left_by-low r h = let low : leb (r.first + r.size) (2 ^ 32 - 1024) ≡ true = grind (arith, nat_tests) in ap (λ b. if b then Vacant (r.first + r.size) else Retired) low
 
-join-lives-if : (o : Option End) (reached : ℕ) (slots : List (Slot Begun)) (entries : List (ℕ × Option Ticket)) (call : ℕ) (range : Ticket) (b : Begun) → end_of (finished reached b).state ≡ o → IsSound slots entries → length entries ≤ 500000
+join-lives-if : (o : Option End) (reached : ℕ) (slots : List (Slot Begun)) (entries : List (ℕ × Option Ticket)) (call : ℕ) (range : Ticket) (b : Begun)
+    → end_of (finished reached b).state ≡ o → IsSound slots entries → length entries ≤ 500000
     → lookup (nat_eq call) entries ≡ Some (Some range) → value_says (look range.first slots) ≡ Some b → (l : Lives slots range b) → IsNumbered call range (Some (finished reached b))
-    → join reached (version_of range.first) (Taken l.r) ≡ joined_to o (finished reached b) l.r → Follows slots (change l.slot (join reached (version_of range.first)) slots) entries call (joined reached)
+    → join reached (version_of range.first) (Taken l.r) ≡ joined_to o (finished reached b) l.r
+    → Follows slots (change l.slot (join reached (version_of range.first)) slots) entries call (joined reached)
 join-lives-if None reached slots entries call range b end sound few found value l number is =
     let known = known-of slots call (Some range) entries sound.known found in
     let top = slot-of-all (IsSlot (most entries)) l.slot slots (Taken l.r) sound.open_slots l.at in
@@ -61,7 +65,8 @@ join-lives-if None reached slots entries call range b end sound few found value 
     let step : joined reached (begun b) ≡ begun (finished reached b) = ap (stand_joined (finished reached b)) end in
     let later : IsLater l.r.value (finished reached b) = subst (λ c. IsLater c (finished reached b)) (sym l.value) (finished-later reached b) in
     stepped slots entries call range b (join reached (version_of range.first)) (Taken (visited l.r (finished reached b))) (joined reached) sound found value l is (refl, refl)
-    (later-range (most entries) l.r (visited l.r (finished reached b)) later refl refl refl (subst (λ c. IsFit l.r.size (finished reached c)) l.value (finished-fit l.r.size reached l.r.value top.fit)) top)
+    (later-range (most entries) l.r (visited l.r (finished reached b)) later refl refl refl
+    (subst (λ c. IsFit l.r.size (finished reached c)) l.value (finished-fit l.r.size reached l.r.value top.fit)) top)
     (step ∙ ap (stand call) (sym looks)) (inl (l.version, l.width)) (subst (IsNumbered call range) (sym looks) number) (ap is_begun step)
 join-lives-if (Some e) reached slots entries call range b end sound few found value l number is =
     let top = slot-of-all (IsSlot (most entries)) l.slot slots (Taken l.r) sound.open_slots l.at in
@@ -88,7 +93,8 @@ join-lives reached slots entries call range b sound few found value =
     let later = finished-later reached b in
     let number : IsNumbered call range (Some (finished reached b)) = (later.number ∙ own.0, later.plan ∙ own.1) in
     let s = join-lives-if (end_of (finished reached b).state) reached slots entries call range b refl sound few found value l number is in
-    let finds : find (is_call call) (standings slots entries) ≡ Some (begun b) = find-standing slots call entries sound.known ∙ ap (option_map (standing_at slots call)) found ∙ ap (λ x. Some (stand call x)) value in
+    let finds : find (is_call call) (standings slots entries) ≡ Some (begun b) =
+    find-standing slots call entries sound.known ∙ ap (option_map (standing_at slots call)) found ∙ ap (λ x. Some (stand call x)) value in
     let says : join_says reached (look range.first slots) ≡ Some ((finish reached b).0, join_end (finished reached b) (end_of (finished reached b).state)) =
     ap (join_says reached) looks ∙ ap (λ c. Some ((finish reached c).0, join_end (finished reached c) (end_of (finished reached c).state))) l.value in
     record {
@@ -104,7 +110,8 @@ join-over-step reached slots entries call range sound few found none =
     let low : most entries < 2 ^ 32 = omega (arith, few) in
     let o = is-over slots call range (most entries) known sound.open_slots low none in
     let zero_more : range.first + 0 ≡ range.first = omega arith in
-    let same = subst (λ id. changed (join reached (version_of id)) id slots ≡ slots) zero_more (over-nothing slots range o 0 (λ v. join reached v) known.0 (λ v s e. ap (λ x. join_by reached x s) e)) in
+    let same =
+    subst (λ id. changed (join reached (version_of id)) id slots ≡ slots) zero_more (over-nothing slots range o 0 (λ v. join reached v) known.0 (λ v s e. ap (λ x. join_by reached x s) e)) in
     let nothing : look range.first slots ≡ Nothing = subst (λ id. look id slots ≡ Nothing) zero_more (let l = over-look slots range o 0 known.0 in look-at (range.first + 0) slots o.slot l.0 ∙ l.1) in
     let stands = over-standing slots entries call range sound.known found none in
     let idle = change_first-nothing (is_call call) (joined reached) (standings slots entries) (idle-if (joined reached) (told_of call) _ stands refl) in
@@ -139,11 +146,13 @@ join-first slots entries call range sound few found r k e =
     same_range a b j k e = cc
 
 -- Other joins: of a call that found no slot, and of none.
-pub join-full : (reached : ℕ) (slots : List (Slot Begun)) (entries : List (ℕ × Option Ticket)) (call : ℕ) → AllByRecursion (λ entry. IsKnown slots entry.0 entry.1) entries → lookup (nat_eq call) entries ≡ Some None
+pub join-full : (reached : ℕ) (slots : List (Slot Begun)) (entries : List (ℕ × Option Ticket)) (call : ℕ) → AllByRecursion (λ entry. IsKnown slots entry.0 entry.1) entries
+    → lookup (nat_eq call) entries ≡ Some None
     → find (is_call call) (standings slots entries) ≡ Some (full call)
 join-full reached slots entries call known found = find-standing slots call entries known ∙ ap (option_map (standing_at slots call)) found
 
-pub join-absent : (reached : ℕ) (slots : List (Slot Begun)) (entries : List (ℕ × Option Ticket)) (call : ℕ) → AllByRecursion (λ entry. IsKnown slots entry.0 entry.1) entries → lookup (nat_eq call) entries ≡ None
+pub join-absent : (reached : ℕ) (slots : List (Slot Begun)) (entries : List (ℕ × Option Ticket)) (call : ℕ) → AllByRecursion (λ entry. IsKnown slots entry.0 entry.1) entries
+    → lookup (nat_eq call) entries ≡ None
     → find (is_call call) (standings slots entries) ≡ None
 join-absent reached slots entries call known found = find-standing slots call entries known ∙ ap (option_map (standing_at slots call)) found
 

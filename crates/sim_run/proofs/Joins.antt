@@ -1,5 +1,6 @@
 -- A join locks the call's range, takes the call's marks, and lets the range go or ends it.
-use Rattle.std.proofs.Common.{◌≡◌, ◌≢◌, ℕ, zero, suc, ◌-◌, ◌/◌, ◌^◌, ◌<◌, ◌≤◌, ◌==◌, arith, length, slice_get, ◌∷◌, Bool, true, false, not, List, [], Option, None, Some, is_some, ap, sym, refl, ◌∙◌, subst}
+use Rattle.std.proofs.Common.{◌≡◌, ◌≢◌, ℕ, zero, suc, ◌-◌, ◌/◌, ◌^◌, ◌<◌, ◌≤◌, ◌==◌, arith, length, slice_get, ◌∷◌, Bool, true, false, not, List, [], Option, None, Some, is_some, ap, sym}
+use Rattle.std.proofs.Common.{refl, ◌∙◌, subst}
 use Rattle.std.specs.Option.{option_map}
 use Rattle.rpc_model.specs.declared.event.End.{End}
 use Rattle.rpc_model.specs.declared.told.Told.TheVariants.{Unended}
@@ -7,7 +8,8 @@ use Rattle.rpc_model.specs.State.{end_of}
 use Rattle.rpc_model.specs.Marks.{Begun}
 use Rattle.rpc_model.specs.Told.{join_end}
 use Rattle.id_pool.specs.Ids.{slot_of, version_of}
-use Rattle.id_pool.specs.Ranges.{Slot, Vacant, Retired, Taken, Range, Standing, Free, Held, Ended, Seen, Nothing, Unlocked, Locked, Over, offset, seen, seen_at, seen_in, look, own, owned_at, owned_in, slot_at, changed, locked, locked_by, destroyed, destroyed_by, collected, collected_by, held, stands, with_value}
+use Rattle.id_pool.specs.Ranges.{Slot, Vacant, Retired, Taken, Range, Standing, Free, Held, Ended, Seen, Nothing, Unlocked, Locked, Over, offset, seen, seen_at, seen_in, look, own, owned_at}
+use Rattle.id_pool.specs.Ranges.{owned_in, slot_at, changed, locked, locked_by, destroyed, destroyed_by, collected, collected_by, held, stands, with_value}
 use Rattle.id_pool.specs.Answers.{lock_says, value_says}
 use Rattle.id_pool.specs.declared.answers.Lock.TheVariants.{Yes}
 use Rattle.sim_run.specs.declared.slots.Finished.{Finished}
@@ -24,7 +26,8 @@ pub record Finds {T : Type 0} (id : ℕ) (slots : List (Slot T)) (r : Range T) (
   pub within : offset r (version_of id) ≡ Some k
   pub free : r.standing ≡ Free
 
-finds-range : {T : Type 0} (id k : ℕ) (slots : List (Slot T)) (r : Range T) (o : Option ℕ) (st : Standing) → slot_at (slot_of id) slots ≡ Some (Taken r) → offset r (version_of id) ≡ o → r.standing ≡ st
+finds-range : {T : Type 0} (id k : ℕ) (slots : List (Slot T)) (r : Range T) (o : Option ℕ) (st : Standing) → slot_at (slot_of id) slots ≡ Some (Taken r) → offset r (version_of id) ≡ o
+    → r.standing ≡ st
     → lock_says (seen_at r o st) ≡ Yes k → Finds id slots r k
 finds-range id k slots r None st at p q e = absurd (cc)
 finds-range id k slots r (Some j) Free at p q e = let same : j ≡ k = cc in record { at = at; within = p ∙ ap Some same; free = q }
@@ -63,7 +66,8 @@ touched-finds : (v k reached : ℕ) (r : Range Begun) → offset r v ≡ Some k 
 touched-finds v k reached r p q =
     ap (touch (finished reached) v) (locked-finds v k r p q) ∙ ap (λ x. touch_by (finished reached) x (Taken (held r))) (seen-taken v (held r) (Some k) (Held []) p refl)
 
-destroyed-finds : (v k reached : ℕ) (r : Range Begun) → offset r v ≡ Some k → r.standing ≡ Free → destroyed v (touch (finished reached) v (locked v (Taken r))) ≡ Taken (stands Ended (finishing reached r))
+destroyed-finds : (v k reached : ℕ) (r : Range Begun) → offset r v ≡ Some k → r.standing ≡ Free
+    → destroyed v (touch (finished reached) v (locked v (Taken r))) ≡ Taken (stands Ended (finishing reached r))
 destroyed-finds v k reached r p q =
     ap (destroyed v) (touched-finds v k reached r p q) ∙ ap (λ x. destroyed_by x (Taken (finishing reached r))) (seen-taken v (finishing reached r) (Some k) (Held []) p refl)
 
@@ -71,13 +75,15 @@ destroyed-finds v k reached r p q =
 abbrev pub ending : ℕ → ℕ → List (Slot Begun) → List (Slot Begun)
 ending reached id slots = let v = version_of id in changed (destroyed v) id (changed (touch (finished reached) v) id (changed (locked v) id slots))
 
-ending-once : (reached id : ℕ) (slots : List (Slot Begun)) → ending reached id slots ≡ changed (λ s. destroyed (version_of id) (touch (finished reached) (version_of id) (locked (version_of id) s))) id slots
+ending-once : (reached id : ℕ) (slots : List (Slot Begun))
+    → ending reached id slots ≡ changed (λ s. destroyed (version_of id) (touch (finished reached) (version_of id) (locked (version_of id) s))) id slots
 ending-once reached id slots =
     let v = version_of id in
     ap (changed (destroyed v) id) (changed-twice id (locked v) (touch (finished reached) v) slots) ∙ changed-twice id (λ s. touch (finished reached) v (locked v s)) (destroyed v) slots
 
 -- The ended range is its owner's, with the call as the join left it.
-pub ending-own : (reached id k : ℕ) (slots : List (Slot Begun)) (r : Range Begun) → Finds id slots r k → (r.first == version_of id) ≡ true → own id (ending reached id slots) ≡ Over (stands Ended (finishing reached r))
+pub ending-own : (reached id k : ℕ) (slots : List (Slot Begun)) (r : Range Begun) → Finds id slots r k → (r.first == version_of id) ≡ true
+    → own id (ending reached id slots) ≡ Over (stands Ended (finishing reached r))
 ending-own reached id k slots r f first =
     let v = version_of id in
     let g = λ (s : Slot Begun). destroyed v (touch (finished reached) v (locked v s)) in
@@ -88,7 +94,8 @@ join-found : (v k reached : ℕ) (r : Range Begun) → offset r v ≡ Some k →
 join-found v k reached r p q = ap (λ x. join_by reached x (Taken r)) (seen-taken v r (Some k) Free p q)
 
 -- A call with an end leaves its slot.
-pub join-over : (reached id k : ℕ) (slots : List (Slot Begun)) (r : Range Begun) (end : End) → Finds id slots r k → (r.first == version_of id) ≡ true → end_of (finished reached r.value).state ≡ Some end
+pub join-over : (reached id k : ℕ) (slots : List (Slot Begun)) (r : Range Begun) (end : End) → Finds id slots r k → (r.first == version_of id) ≡ true
+    → end_of (finished reached r.value).state ≡ Some end
     → changed (collected (version_of id)) id (ending reached id slots) ≡ changed (join reached (version_of id)) id slots
 join-over reached id k slots r end f first over =
     let v = version_of id in
@@ -97,7 +104,8 @@ join-over reached id k slots r end f first over =
     ap (collected v) (destroyed-finds v k reached r f.within f.free) ∙ ap (λ b. collected_by (owned_at (stands Ended (finishing reached r)) b Ended) (Taken (stands Ended (finishing reached r)))) first
     ∙ sym (join-found v k reached r f.within f.free ∙ ap (λ o. joined_to o (finished reached r.value) r) over) in
     ap (changed (collected v) id) (ending-once reached id slots) ∙ changed-twice id g (collected v) slots
-    ∙ changed-alike id (λ s. collected v (g s)) (join reached v) slots (λ s at. let same : Taken r ≡ s = let e : Some (Taken r) ≡ Some s = sym f.at ∙ at in cc in subst (λ x. collected v (g x) ≡ join reached v x) same left)
+    ∙ changed-alike id (λ s. collected v (g s)) (join reached v) slots
+    (λ s at. let same : Taken r ≡ s = let e : Some (Taken r) ≡ Some s = sym f.at ∙ at in cc in subst (λ x. collected v (g x) ≡ join reached v x) same left)
 
 -- A call without an end keeps its range.
 pub join-open : (reached id k : ℕ) (slots : List (Slot Begun)) (r : Range Begun) → Finds id slots r k → end_of (finished reached r.value).state ≡ None
@@ -107,7 +115,8 @@ join-open reached id k slots r f open_ =
     let kept : visit (finished reached) v (Taken r) ≡ join reached v (Taken r) =
     ap (λ x. visit_by (finished reached) x (Taken r)) (seen-taken v r (Some k) Free f.within f.free)
     ∙ sym (join-found v k reached r f.within f.free ∙ ap (λ o. joined_to o (finished reached r.value) r) open_) in
-    changed-alike id (visit (finished reached) v) (join reached v) slots (λ s at. let same : Taken r ≡ s = let e : Some (Taken r) ≡ Some s = sym f.at ∙ at in cc in subst (λ x. visit (finished reached) v x ≡ join reached v x) same kept)
+    changed-alike id (visit (finished reached) v) (join reached v) slots
+    (λ s at. let same : Taken r ≡ s = let e : Some (Taken r) ≡ Some s = sym f.at ∙ at in cc in subst (λ x. visit (finished reached) v x ≡ join reached v x) same kept)
 
 -- An id that can't be locked finds no call to join.
 pub says-nothing : (reached : ℕ) (x : Seen Begun) → ((k : ℕ) → lock_says x ≢ Yes k) → join_says reached x ≡ None
@@ -120,7 +129,8 @@ locked-join reached Nothing s none = refl
 locked-join reached (Unlocked r k) s none = absurd (none k refl)
 locked-join reached (Locked r k waiting) s none = refl
 
-pub join-nothing : (reached id : ℕ) (slots : List (Slot Begun)) → ((k : ℕ) → lock_says (look id slots) ≢ Yes k) → changed (locked (version_of id)) id slots ≡ changed (join reached (version_of id)) id slots
+pub join-nothing : (reached id : ℕ) (slots : List (Slot Begun)) → ((k : ℕ) → lock_says (look id slots) ≢ Yes k)
+    → changed (locked (version_of id)) id slots ≡ changed (join reached (version_of id)) id slots
 join-nothing reached id slots none =
     changed-alike id (locked (version_of id)) (join reached (version_of id)) slots (λ s at. locked-join reached (seen (version_of id) s) s (λ k e. none k (ap lock_says (look-at id slots s at) ∙ e)))
 
@@ -177,13 +187,15 @@ not-false false e = absurd (cc)
 pub joins-open : (reached id k : ℕ) (slots : List (Slot Begun)) (done : Finished) (j : Joins reached id k slots done) → done.over ≡ false → end_of (finished reached j.range.value).state ≡ None
 joins-open reached id k slots done j over = no_end _ (sym (ap (λ (d : Finished). d.over) j.is) ∙ over)
 
-pub joins-over : (reached id k : ℕ) (slots : List (Slot Begun)) (done : Finished) (j : Joins reached id k slots done) → done.over ≡ true → (end : End) × (end_of (finished reached j.range.value).state ≡ Some end)
+pub joins-over : (reached id k : ℕ) (slots : List (Slot Begun)) (done : Finished) (j : Joins reached id k slots done) → done.over ≡ true
+    → (end : End) × (end_of (finished reached j.range.value).state ≡ Some end)
 joins-over reached id k slots done j over = some_end _ (sym (ap (λ (d : Finished). d.over) j.is) ∙ over)
 
 -- ---- what it does meanwhile
 
 -- The call that is found locked does what the call does that was found unlocked.
-pub locked-acts : (f : ℕ → Acting → Acting) (id k : ℕ) (slots now : List (Slot Begun)) (wires : List Link) (marks : List Mark) → lock_says (look id slots) ≡ Yes k → now ≡ changed (locked (version_of id)) id slots
+pub locked-acts : (f : ℕ → Acting → Acting) (id k : ℕ) (slots now : List (Slot Begun)) (wires : List Link) (marks : List Mark) → lock_says (look id slots) ≡ Yes k
+    → now ≡ changed (locked (version_of id)) id slots
     → acts_found (id - k) f (value_says (look id now)) wires marks ≡ acts_by id f (look id slots) wires marks
 locked-acts f id k slots now wires marks locks is =
     let found = finds id k slots locks in
@@ -212,7 +224,8 @@ locked-low id k slots few locks =
     by (Some i) e {r} at = let h = high_half (id / 2 ^ 32) i e in let w = within i slots r at in omega (arith, h, w, few)
 
 -- The call that is found locked reaches what it reaches unlocked.
-pub locked-early : (reached id k : ℕ) (slots now : List (Slot Begun)) → IsJoinedEarly reached (value_says (look id slots)) → lock_says (look id slots) ≡ Yes k → now ≡ changed (locked (version_of id)) id slots → IsJoinedEarly reached (value_says (look id now))
+pub locked-early : (reached id k : ℕ) (slots now : List (Slot Begun)) → IsJoinedEarly reached (value_says (look id slots)) → lock_says (look id slots) ≡ Yes k
+    → now ≡ changed (locked (version_of id)) id slots → IsJoinedEarly reached (value_says (look id now))
 locked-early reached id k slots now early locks is =
     let found = finds id k slots locks in
     let value : value_says (look id now) ≡ Some found.0.value = ap (λ (ss : List (Slot Begun)). value_says (look id ss)) is ∙ locked-value id k slots found.0 found.1 in

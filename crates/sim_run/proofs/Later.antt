@@ -40,7 +40,8 @@ finish-later (suc n) reached b = at (is_some (end_of b.state)) (λ r c. finish-l
     by : (o : Option (Mark × List Mark)) → ((r : ℕ) (c : Begun) → IsLater c (finish_at_most n r c).1) → IsLater b (finish_least (finish_at_most n) reached b o).1
     by None again = same-later b
     by (Some (mark, others)) again =
-        later-later b (take_mark b mark others) (finish_at_most n (max reached mark.moment) (take_mark b mark others)).1 (taken-later b mark others) (again (max reached mark.moment) (take_mark b mark others))
+        later-later b (take_mark b mark others) (finish_at_most n (max reached mark.moment) (take_mark b mark others)).1 (taken-later b mark others)
+        (again (max reached mark.moment) (take_mark b mark others))
 
     at : (v : Bool) → ((r : ℕ) (c : Begun) → IsLater c (finish_at_most n r c).1) → IsLater b (cond v (reached, b) (finish_least (finish_at_most n) reached b (least_mark b.waiting))).1
     at true again = same-later b

@@ -28,7 +28,8 @@ mutual
 
   leaves-served : (servers node : ℕ) (ps : Plans MapKind MergeKind) (wanted : ℕ) → AreAllServed servers ps → IsServedIn servers (leaf_at_of node ps wanted)
   leaves-served servers node last_plan wanted h = tt
-  leaves-served servers node (plan_then p ps) wanted h = or-served servers (leaf_at node p wanted) (leaf_at_of (node + nodes p) ps wanted) (leaf-served servers node p wanted h.0) (leaves-served servers (node + nodes p) ps wanted h.1)
+  leaves-served servers node (plan_then p ps) wanted h =
+      or-served servers (leaf_at node p wanted) (leaf_at_of (node + nodes p) ps wanted) (leaf-served servers node p wanted h.0) (leaves-served servers (node + nodes p) ps wanted h.1)
 
 pub server-known : (servers : ℕ) (leaf : LeafChan) (call attempt : ℕ) → IsServed servers leaf → server_of leaf call attempt < servers
 server-known servers leaf call attempt h = h.1 ((call + attempt) % length leaf.servers) 0 (let some = h.0 in omega (arith, some))

@@ -21,6 +21,7 @@ pub mod Begins
 pub mod Named
 pub mod Passing
 pub mod Wiring
+pub mod Closed
 pub mod Streams
 pub mod Ready
 pub mod Replies

@@ -47,7 +47,8 @@ pub marked-settled : (moment : ℕ) (marks : List Mark) (slots : List (Slot Begu
 marked-settled moment marks slots marked none slot r at = weave-nothing moment r.value (all-late moment (make_id slot r.first) r.value.waiting marks none (marked slot r at))
 
 -- A mark that isn't one of these may go.
-pub drop-mark : (mark : Mark) (first n : ℕ) (waiting : List CallMark) (rest : List Mark) → AllByRecursion (λ (w : CallMark). w.node < n) waiting → ((node : ℕ) → node < n → mark.id ≡ first + node → ⊥) → HasMarks first waiting (mark ∷ rest) → HasMarks first waiting rest
+pub drop-mark : (mark : Mark) (first n : ℕ) (waiting : List CallMark) (rest : List Mark) → AllByRecursion (λ (w : CallMark). w.node < n) waiting
+    → ((node : ℕ) → node < n → mark.id ≡ first + node → ⊥) → HasMarks first waiting (mark ∷ rest) → HasMarks first waiting rest
 drop-mark mark first n [] rest within none all = tt
 drop-mark mark first n (w ∷ ws) rest within none all = (by all.0, drop-mark mark first n ws rest within.1 none all.1)
   where

@@ -15,19 +15,22 @@ on_ok P Q (Ok x) f p = f p
 on_ok P Q (Err e) f p = tt
 
 -- an event of a call
-pub event-step : (script : Script) (s t next : Replay) (m call : ℕ) (e : Event) → s.reached ≡ m → settled s ≡ settled (record t { reached = m }) → next ≡ call_event s s.reached call e → settled next ≡ settled (call_event t m call e)
+pub event-step : (script : Script) (s t next : Replay) (m call : ℕ) (e : Event) → s.reached ≡ m → settled s ≡ settled (record t { reached = m }) → next ≡ call_event s s.reached call e
+    → settled next ≡ settled (call_event t m call e)
 event-step script s t next m call e reached alike after =
     let mine : settled next ≡ settled (call_event s m call e) = ap settled (after ∙ ap (λ n. call_event s n call e) reached) in
     let le : s.reached ≤ m = omega (arith, reached) in
     mine ∙ sym (event-line script s m call e le) ∙ ap (λ r. settled (call_event r m call e)) alike ∙ event-line script (record t { reached = m }) m call e (omega arith)
 
 -- where a plan is found, only the calls count
-call-behind : (script : Script) (t : Replay) (m call : ℕ) (text : List ℕ) (o : Option (Plan MapKind MergeKind)) → call_after script (record t { reached = m }) m call text o ≡ call_after script t m call text o
+call-behind : (script : Script) (t : Replay) (m call : ℕ) (text : List ℕ) (o : Option (Plan MapKind MergeKind))
+    → call_after script (record t { reached = m }) m call text o ≡ call_after script t m call text o
 call-behind script t m call text None = refl
 call-behind script t m call text (Some p) = refl
 
 -- a call that begins
-pub call-step : (script : Script) (s t next : Replay) (m call : ℕ) (text : List ℕ) (o : Option (Plan MapKind MergeKind)) → s.reached ≡ m → settled s ≡ settled (record t { reached = m }) → next ≡ call_after script s s.reached call text o
+pub call-step : (script : Script) (s t next : Replay) (m call : ℕ) (text : List ℕ) (o : Option (Plan MapKind MergeKind)) → s.reached ≡ m → settled s ≡ settled (record t { reached = m })
+    → next ≡ call_after script s s.reached call text o
     → settled next ≡ settled (call_after script t m call text o)
 call-step script s t next m call text o reached alike after =
     let mine : settled next ≡ settled (call_after script s m call text o) = ap settled (after ∙ ap (λ n. call_after script s n call text o) reached) in
@@ -42,5 +45,6 @@ full-behind script s t m alike =
     ap (nat_le script.slots) count
 
 -- what its line tells
-pub call-says : (script : Script) (s t : Replay) (m call : ℕ) (o : Option (Plan MapKind MergeKind)) → settled s ≡ settled (record t { reached = m }) → call_tells (is_full script s) call o ≡ call_tells (is_full script t) call o
+pub call-says : (script : Script) (s t : Replay) (m call : ℕ) (o : Option (Plan MapKind MergeKind)) → settled s ≡ settled (record t { reached = m })
+    → call_tells (is_full script s) call o ≡ call_tells (is_full script t) call o
 call-says script s t m call o alike = ap (λ v. call_tells v call o) (full-behind script s t m alike)

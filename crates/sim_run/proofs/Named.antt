@@ -78,7 +78,8 @@ abbrev mutual
 abbrev Few : LeafChan → Leaf → Type 0
 Few chan leaf = (1 ≤ leaf.issued) × (leaf.issued ≤ 1 + chan.retry)
 
-leaf-each : (P : Send → Type 0) (call node : ℕ) (chan : LeafChan) (request : List ℕ) (count : ℕ) → count ≤ 1 + chan.retry → Each P call node chan → AllByRecursion P (leaf_sends chan call node request count)
+leaf-each : (P : Send → Type 0) (call node : ℕ) (chan : LeafChan) (request : List ℕ) (count : ℕ) → count ≤ 1 + chan.retry → Each P call node chan
+    → AllByRecursion P (leaf_sends chan call node request count)
 leaf-each P call node chan request zero few each = tt
 leaf-each P call node chan request (suc count) few each =
     all-append P (leaf_sends chan call node request count) (record { node = node; attempt = count; server = server_of chan call count; payload = request } ∷ [])
@@ -87,13 +88,15 @@ leaf-each P call node chan request (suc count) few each =
 none-sent : (P : Send → Type 0) (call node : ℕ) (p : Plan MapKind MergeKind) (s : State MapKind MergeKind) → s ≡ waits p → AllByRecursion P (sends_of call node s)
 none-sent P call node p s e = rw e tt
 
-next-each : (P : Send → Type 0) (call node : ℕ) (p : Plan MapKind MergeKind) (s : State MapKind MergeKind) (ss : States MapKind MergeKind) → size s ≡ nodes p → AllByRecursion P (sends_of call node s) → AllByRecursion P (all_sends call (node + nodes p) ss)
+next-each : (P : Send → Type 0) (call node : ℕ) (p : Plan MapKind MergeKind) (s : State MapKind MergeKind) (ss : States MapKind MergeKind) → size s ≡ nodes p
+    → AllByRecursion P (sends_of call node s) → AllByRecursion P (all_sends call (node + nodes p) ss)
     → AllByRecursion P (all_sends call node (state_then s ss))
 next-each P call node p s ss same first rest =
     all-append P (sends_of call node s) (all_sends call (node + size s) ss) first (subst (λ n. AllByRecursion P (all_sends call (node + n) ss)) (sym same) rest)
 
 mutual
-  state-each : (P : Send → Type 0) (call node : ℕ) (request : List ℕ) (p : Plan MapKind MergeKind) (s : State MapKind MergeKind) → EachOf P call node p → IsOf script_kinds request p s → EachLeaf Few s → AllByRecursion P (sends_of call node s)
+  state-each : (P : Send → Type 0) (call node : ℕ) (request : List ℕ) (p : Plan MapKind MergeKind) (s : State MapKind MergeKind) → EachOf P call node p → IsOf script_kinds request p s
+      → EachLeaf Few s → AllByRecursion P (sends_of call node s)
   state-each P call node request p (waits q) each h few = tt
   state-each P call node request (leaf_plan chan) (leaf_state c q leaf) each h few =
       leaf-each P call node c q leaf.issued few.1 (subst (Each P call node) (sym h.0) each)
@@ -106,7 +109,8 @@ mutual
   state-each P call node request (par_plan rule plans) (sel_state sel states) each h few = absurd h
   state-each P call node request (sel_plan timeout plans) (sel_state sel states) each h few = tries-each P call (node + 1) request plans states each h.1 few
 
-  subs-each : (P : Send → Type 0) (call node : ℕ) (asked : List Mapped) (ps : Plans MapKind MergeKind) (ss : States MapKind MergeKind) → EachOfAll P call node ps → SubsAreOf script_kinds asked ps ss → EachLeafOf Few ss → AllByRecursion P (all_sends call node ss)
+  subs-each : (P : Send → Type 0) (call node : ℕ) (asked : List Mapped) (ps : Plans MapKind MergeKind) (ss : States MapKind MergeKind) → EachOfAll P call node ps
+      → SubsAreOf script_kinds asked ps ss → EachLeafOf Few ss → AllByRecursion P (all_sends call node ss)
   subs-each P call node asked last_plan last_state each h few = tt
   subs-each P call node asked (plan_then p ps) last_state each h few = absurd h
   subs-each P call node asked last_plan (state_then s ss) each h few = absurd h
@@ -119,7 +123,8 @@ mutual
   subs-each P call node [] (plan_then p ps) (state_then s ss) each h few =
       next-each P call node p s ss (ap size h.0) (none-sent P call node p s h.0) (subs-each P call (node + nodes p) [] ps ss each.1 h.1 few.1)
 
-  tries-each : (P : Send → Type 0) (call node : ℕ) (request : List ℕ) (ps : Plans MapKind MergeKind) (ss : States MapKind MergeKind) → EachOfAll P call node ps → TriesAreOf script_kinds request ps ss → EachLeafOf Few ss → AllByRecursion P (all_sends call node ss)
+  tries-each : (P : Send → Type 0) (call node : ℕ) (request : List ℕ) (ps : Plans MapKind MergeKind) (ss : States MapKind MergeKind) → EachOfAll P call node ps
+      → TriesAreOf script_kinds request ps ss → EachLeafOf Few ss → AllByRecursion P (all_sends call node ss)
   tries-each P call node request last_plan last_state each h few = tt
   tries-each P call node request (plan_then p ps) last_state each h few = absurd h
   tries-each P call node request last_plan (state_then s ss) each h few = absurd h
@@ -156,14 +161,16 @@ leaf-placed P node attempt (suc count) (suc k) less h =
     let same : attempt + 1 + k ≡ attempt + suc k = omega arith in subst (λ n. P (Attempt node n)) same (leaf-placed P node (attempt + 1) count k (omega (arith, less)) h.1)
 
 mutual
-  plan-each : (servers call : ℕ) (root : Plan MapKind MergeKind) (node : ℕ) (p : Plan MapKind MergeKind) → AreServed servers p → AllByRecursion (IsPlaced root) (attempt_versions node p) → EachOf (HasPlace servers root) call node p
+  plan-each : (servers call : ℕ) (root : Plan MapKind MergeKind) (node : ℕ) (p : Plan MapKind MergeKind) → AreServed servers p → AllByRecursion (IsPlaced root) (attempt_versions node p)
+      → EachOf (HasPlace servers root) call node p
   plan-each servers call root node (leaf_plan leaf) served h = λ k request less.
       let zero_more : 0 + k ≡ k = omega arith in
       (subst (λ n. IsPlaced root (Attempt node n)) zero_more (leaf-placed (IsPlaced root) node 0 (leaf.retry + 1) k less h), server-known servers leaf call k served)
   plan-each servers call root node (par_plan rule plans) served h = plans-each servers call root (node + 1) plans served h
   plan-each servers call root node (sel_plan timeout plans) served h = plans-each servers call root (node + 1) plans served h
 
-  plans-each : (servers call : ℕ) (root : Plan MapKind MergeKind) (node : ℕ) (ps : Plans MapKind MergeKind) → AreAllServed servers ps → AllByRecursion (IsPlaced root) (attempt_versions_of node ps) → EachOfAll (HasPlace servers root) call node ps
+  plans-each : (servers call : ℕ) (root : Plan MapKind MergeKind) (node : ℕ) (ps : Plans MapKind MergeKind) → AreAllServed servers ps
+      → AllByRecursion (IsPlaced root) (attempt_versions_of node ps) → EachOfAll (HasPlace servers root) call node ps
   plans-each servers call root node last_plan served h = tt
   plans-each servers call root node (plan_then p ps) served h =
       let front = attempt_versions node p in
@@ -179,7 +186,8 @@ is_placed servers root send = is_some (offset_of root (Attempt send.node send.at
 to-test : (servers : ℕ) (root : Plan MapKind MergeKind) (send : Send) → HasPlace servers root send → is_placed servers root send ≡ true
 to-test servers root send h = let less : nat_lt send.server servers ≡ true = (let l = h.1 in grind (arith, nat_tests)) in ap (λ b. b && nat_lt send.server servers) h.0 ∙ less
 
-from-test : (servers : ℕ) (root : Plan MapKind MergeKind) (send : Send) (a b : Bool) → is_some (offset_of root (Attempt send.node send.attempt)) ≡ a → nat_lt send.server servers ≡ b → (a && b) ≡ true → HasPlace servers root send
+from-test : (servers : ℕ) (root : Plan MapKind MergeKind) (send : Send) (a b : Bool) → is_some (offset_of root (Attempt send.node send.attempt)) ≡ a → nat_lt send.server servers ≡ b
+    → (a && b) ≡ true → HasPlace servers root send
 from-test servers root send true true p q e = (p, grind (arith, nat_tests))
 from-test servers root send true false p q e = absurd (cc)
 from-test servers root send false b p q e = absurd (cc)
@@ -214,7 +222,8 @@ run-placed servers plan call request moment events served =
     let run = machine script_kinds plan call request moment events in
     let test = is_placed servers plan in
     let each = plan-each servers call plan 0 plan served (all-placed plan) in
-    let state = state-each (HasPlace servers plan) call 0 request plan run.state each (run-nodes script_kinds plan call request moment events) (leaves-few script_kinds plan call request moment events) in
+    let state =
+    state-each (HasPlace servers plan) call 0 request plan run.state each (run-nodes script_kinds plan call request moment events) (leaves-few script_kinds plan call request moment events) in
     let none = none-fails test (sends_of call 0 run.state) (all-map (HasPlace servers plan) (λ s. test s ≡ true) (sends_of call 0 run.state) (to-test servers plan) state) in
     let sent = all-pass test run.sends (run-sends script_kinds (λ s. not (test s)) plan call request moment events ∙ none) in
     all-map (λ s. test s ≡ true) (HasPlace servers plan) run.sends (λ s e. from-test servers plan s _ _ refl refl e) sent

@@ -1,5 +1,6 @@
 -- A call line of a replay.
-use Rattle.std.proofs.Common.{◌≡◌, ℕ, ◌+◌, ◌*◌, ◌^◌, ◌<◌, ◌≤◌, inl, inr, true, false, nat_eq, List, [], ◌∷◌, ◌++◌, length, slice_get, count_by, Option, None, Some, ap, sym, refl, ◌∙◌, subst, arith, if◌then◌else◌}
+use Rattle.std.proofs.Common.{◌≡◌, ℕ, ◌+◌, ◌*◌, ◌^◌, ◌<◌, ◌≤◌, inl, inr, true, false, nat_eq, List, [], ◌∷◌, ◌++◌, length, slice_get, count_by, Option, None, Some, ap, sym, refl, ◌∙◌, subst}
+use Rattle.std.proofs.Common.{arith, if◌then◌else◌}
 use Rattle.std.proofs.lemmas.Bool.{eqb-false, ne_eqb}
 use Rattle.std.proofs.lemmas.Bool.Decides.{nat_tests}
 use Rattle.std.proofs.lemmas.Map.Keys.{IsDistinct-head, IsDistinct-tail}
@@ -51,7 +52,8 @@ pub record Place (slots : List (Slot Begun)) (width id : ℕ) (b : Begun) : Type
   pub is : id ≡ make_id slot next
   pub after : created width b slots ≡ change slot (λ s. Taken (fresh next width b)) slots
 
-place-of : (slots : List (Slot Begun)) (width id : ℕ) (b : Begun) (o : Option (ℕ × ℕ)) → lowest slots ≡ o → is_width width ≡ true → Some id ≡ option_map (λ p. make_id p.0 p.1) o → Place slots width id b
+place-of : (slots : List (Slot Begun)) (width id : ℕ) (b : Begun) (o : Option (ℕ × ℕ)) → lowest slots ≡ o → is_width width ≡ true → Some id ≡ option_map (λ p. make_id p.0 p.1) o
+    → Place slots width id b
 place-of slots width id b None low wide e = absurd (cc)
 place-of slots width id b (Some p) low wide e = record {
   slot = p.0;
@@ -69,7 +71,8 @@ none-low None e = refl
 none-low (Some p) e = absurd (cc)
 
 -- No slot is vacant, and none is taken.
-pub no-place : (slots : List (Slot Begun)) (width : ℕ) (b : Begun) → 1 ≤ width → width ≤ 1024 → None ≡ option_map (λ p. make_id p.0 p.1) (lowest slots) → (lowest slots ≡ None) × (created width b slots ≡ slots)
+pub no-place : (slots : List (Slot Begun)) (width : ℕ) (b : Begun) → 1 ≤ width → width ≤ 1024 → None ≡ option_map (λ p. make_id p.0 p.1) (lowest slots)
+    → (lowest slots ≡ None) × (created width b slots ≡ slots)
 no-place slots width b some most e =
     let low = none-low (lowest slots) e in
     (low, ap (λ b'. created_at b' (lowest slots) width b slots) (width-is width some most) ∙ ap (λ o. created_at true o width b slots) low)
@@ -95,16 +98,21 @@ isn't-full script old i next ready at =
 -- ---- the call line
 
 -- A call that took a slot leaves the plain machine's calls with it.
-begun-joined : (old : Replay) (script : Script) (call moment : ℕ) (ticket : Ticket) (text : List ℕ) (entries : List (ℕ × Option Ticket)) (after : List (Slot Begun)) → IsReady script old → length old.calls.entries ≤ 500000 → width_of ticket ≤ 1024
-    → (p : Place old.pool (width_of ticket) ticket.first (begin call (plan_of ticket) text moment)) → after ≡ created (width_of ticket) (begin call (plan_of ticket) text moment) old.pool → entries ≡ old.calls.entries ++ (call, Some ticket) ∷ [] → IsDistinct nat_eq (keys_of entries)
+begun-joined : (old : Replay) (script : Script) (call moment : ℕ) (ticket : Ticket) (text : List ℕ) (entries : List (ℕ × Option Ticket)) (after : List (Slot Begun)) → IsReady script old
+    → length old.calls.entries ≤ 500000 → width_of ticket ≤ 1024
+    → (p : Place old.pool (width_of ticket) ticket.first (begin call (plan_of ticket) text moment)) → after ≡ created (width_of ticket) (begin call (plan_of ticket) text moment) old.pool
+    → entries ≡ old.calls.entries ++ (call, Some ticket) ∷ [] → IsDistinct nat_eq (keys_of entries)
     → Joined old.pool after old.calls.entries call (Some ticket) (begun (begin call (plan_of ticket) text moment))
 begun-joined old script call moment ticket text entries after ready few narrow p made put once =
     let b = begin call (plan_of ticket) text moment in
-    let j = call-begins old.pool old.calls.entries call p.slot p.next ticket b ready.sound few p.at p.is refl (plan-wide (plan_of ticket)) narrow refl (begin-fit call (plan_of ticket) text moment) (subst (λ es. IsDistinct nat_eq (keys_of es)) put once) in
+    let j =
+    call-begins old.pool old.calls.entries call p.slot p.next ticket b ready.sound few p.at p.is refl (plan-wide (plan_of ticket)) narrow refl (begin-fit call (plan_of ticket) text moment)
+    (subst (λ es. IsDistinct nat_eq (keys_of es)) put once) in
     subst (λ ss. Joined old.pool ss old.calls.entries call (Some ticket) (begun b)) (sym (made ∙ p.after)) j
 
 -- The first id is low.
-pub first-low : (old : Replay) (script : Script) (width first : ℕ) (b : Begun) → IsReady script old → length old.calls.entries ≤ 500000 → script.slots ≤ 4096 → (p : Place old.pool width first b) → first < 2 ^ 63
+pub first-low : (old : Replay) (script : Script) (width first : ℕ) (b : Begun) → IsReady script old → length old.calls.entries ≤ 500000 → script.slots ≤ 4096
+    → (p : Place old.pool width first b) → first < 2 ^ 63
 first-low old script width first b ready few slots p =
     let top : p.next ≤ 1 + 1024 * length old.calls.entries = slot-of-all (IsSlot (1 + 1024 * length old.calls.entries)) p.slot old.pool (Vacant p.next) ready.sound.open_slots p.at in
     let within = slice_get-within p.slot old.pool (Vacant p.next) p.at in
@@ -114,15 +122,20 @@ first-low old script width first b ready few slots p =
 
 -- Each mark that a call waits for is among all marks, and each of those is a call's.
 owned-more : (entries : List (ℕ × Option Ticket)) (call : ℕ) (o : Option Ticket) (id : ℕ) → lookup (nat_eq call) entries ≡ None → IsOwned entries id → IsOwned (entries ++ (call, o) ∷ []) id
-owned-more entries call o id none own = record { call = own.call; ticket = own.ticket; place = own.place; found = lookup-more own.call (Some own.ticket) (call, o) entries own.found; within = own.within; is = own.is }
+owned-more entries call o id none own =
+    record { call = own.call; ticket = own.ticket; place = own.place; found = lookup-more own.call (Some own.ticket) (call, o) entries own.found; within = own.within; is = own.is }
 
-all-owned-more : (entries : List (ℕ × Option Ticket)) (call : ℕ) (o : Option Ticket) (marks : List Mark) → lookup (nat_eq call) entries ≡ None → AreOwned entries marks → AreOwned (entries ++ (call, o) ∷ []) marks
+all-owned-more : (entries : List (ℕ × Option Ticket)) (call : ℕ) (o : Option Ticket) (marks : List Mark) → lookup (nat_eq call) entries ≡ None → AreOwned entries marks
+    → AreOwned (entries ++ (call, o) ∷ []) marks
 all-owned-more entries call o [] none all = tt
 all-owned-more entries call o (m ∷ ms) none all = (owned-more entries call o m.id none all.0, all-owned-more entries call o ms none all.1)
 
-pub call-ready : (old new : Replay) (script : Script) (call moment : ℕ) (ticket : Ticket) (text : List ℕ) → IsReady script old → length old.calls.entries ≤ 500000 → width_of ticket ≤ 1024 → AreServed script.servers (plan_of ticket) → lookup (nat_eq call) old.calls.entries ≡ None
-    → (p : Place old.pool (width_of ticket) ticket.first (begin call (plan_of ticket) text moment)) → new.pool ≡ created (width_of ticket) (begin call (plan_of ticket) text moment) old.pool → new.calls.entries ≡ old.calls.entries ++ (call, Some ticket) ∷ []
-    → IsDistinct nat_eq (keys_of new.calls.entries) → new.marks ≡ marked ticket.first (start script_kinds (plan_of ticket) call text moment).marks old.marks → new.wires.items ≡ posted ticket.first (plan_of ticket) call (start script_kinds (plan_of ticket) call text moment).sends old.wires.items → IsReady script new
+pub call-ready : (old new : Replay) (script : Script) (call moment : ℕ) (ticket : Ticket) (text : List ℕ) → IsReady script old → length old.calls.entries ≤ 500000 → width_of ticket ≤ 1024
+    → AreServed script.servers (plan_of ticket) → lookup (nat_eq call) old.calls.entries ≡ None
+    → (p : Place old.pool (width_of ticket) ticket.first (begin call (plan_of ticket) text moment)) → new.pool ≡ created (width_of ticket) (begin call (plan_of ticket) text moment) old.pool
+    → new.calls.entries ≡ old.calls.entries ++ (call, Some ticket) ∷ []
+    → IsDistinct nat_eq (keys_of new.calls.entries) → new.marks ≡ marked ticket.first (start script_kinds (plan_of ticket) call text moment).marks old.marks
+    → new.wires.items ≡ posted ticket.first (plan_of ticket) call (start script_kinds (plan_of ticket) call text moment).sends old.wires.items → IsReady script new
 call-ready old new script call moment ticket text ready few narrow served none p made put once set wires =
     let plan = plan_of ticket in
     let run = start script_kinds plan call text moment in
@@ -132,7 +145,8 @@ call-ready old new script call moment ticket text ready few narrow served none p
     let own : HasMarks ticket.first b.waiting (marked ticket.first run.marks old.marks) = marks-set ticket.first run.marks [] old.marks tt in
     let waits : AreMarked (marked ticket.first run.marks old.marks) (change p.slot g old.pool) = λ i x there. elim (same_or p.slot i) [
       | inl same ↦
-          let at_new : slice_get (change p.slot g old.pool) i ≡ Some (Taken (fresh p.next (width_of ticket) b)) = ap (slice_get (change p.slot g old.pool)) (sym same) ∙ slice_get-change p.slot g old.pool (Vacant p.next) p.at in
+          let at_new : slice_get (change p.slot g old.pool) i ≡ Some (Taken (fresh p.next (width_of ticket) b)) =
+          ap (slice_get (change p.slot g old.pool)) (sym same) ∙ slice_get-change p.slot g old.pool (Vacant p.next) p.at in
           let both : Some (Taken (fresh p.next (width_of ticket) b)) ≡ Some (Taken x) = sym at_new ∙ there in
           let is : fresh p.next (width_of ticket) b ≡ x = same-taken _ x both in
           subst (λ (y : Range Begun). HasMarks (make_id i y.first) y.value.waiting (marked ticket.first run.marks old.marks)) is
@@ -143,8 +157,10 @@ call-ready old new script call moment ticket text ready few narrow served none p
     ] in
     let entries = old.calls.entries ++ (call, Some ticket) ∷ [] in
     let within = start-within script_kinds (width plan) 0 plan call text moment (let w = few_attempts plan in omega (arith, w)) in
-    let mine : (node : ℕ) → node < width plan → IsOwned entries (ticket.first + node) = λ node less. record { call = call; ticket = ticket; place = node; found = lookup-last call (Some ticket) old.calls.entries none; within = less; is = refl } in
-    let owned : AreOwned entries (marked ticket.first run.marks old.marks) = ids-set (IsOwned entries) (width plan) ticket.first run.marks old.marks mine within (all-owned-more old.calls.entries call (Some ticket) old.marks none ready.owned) in
+    let mine : (node : ℕ) → node < width plan → IsOwned entries (ticket.first + node) =
+    λ node less. record { call = call; ticket = ticket; place = node; found = lookup-last call (Some ticket) old.calls.entries none; within = less; is = refl } in
+    let owned : AreOwned entries (marked ticket.first run.marks old.marks) =
+    ids-set (IsOwned entries) (width plan) ticket.first run.marks old.marks mine within (all-owned-more old.calls.entries call (Some ticket) old.marks none ready.owned) in
     record {
       sound = rw put j.sound;
       pool = j.size ∙ ready.pool;
@@ -157,8 +173,10 @@ call-ready old new script call moment ticket text ready few narrow served none p
     same-taken : (s x : Range Begun) → Some (Taken s) ≡ Some (Taken x) → s ≡ x
     same-taken s x e = cc
 
-pub call-after : (old new : Replay) (script : Script) (moment call : ℕ) (ticket : Ticket) (text : List ℕ) (o : Option (Plan MapKind MergeKind)) → o ≡ Some (plan_of ticket) → IsReady script old → length old.calls.entries ≤ 500000 → width_of ticket ≤ 1024
-    → (p : Place old.pool (width_of ticket) ticket.first (begin call (plan_of ticket) text moment)) → new.pool ≡ created (width_of ticket) (begin call (plan_of ticket) text moment) old.pool → new.calls.entries ≡ old.calls.entries ++ (call, Some ticket) ∷ []
+pub call-after : (old new : Replay) (script : Script) (moment call : ℕ) (ticket : Ticket) (text : List ℕ) (o : Option (Plan MapKind MergeKind)) → o ≡ Some (plan_of ticket)
+    → IsReady script old → length old.calls.entries ≤ 500000 → width_of ticket ≤ 1024
+    → (p : Place old.pool (width_of ticket) ticket.first (begin call (plan_of ticket) text moment)) → new.pool ≡ created (width_of ticket) (begin call (plan_of ticket) text moment) old.pool
+    → new.calls.entries ≡ old.calls.entries ++ (call, Some ticket) ∷ []
     → IsDistinct nat_eq (keys_of new.calls.entries) → new.reached ≡ moment → replay_of new ≡ spec.call_after script (replay_of old) moment call text o
 call-after old new script moment call ticket text o planned ready few narrow p made put once reached =
     let j = begun-joined old script call moment ticket text new.calls.entries new.pool ready few narrow p made put once in
@@ -168,15 +186,18 @@ call-after old new script moment call ticket text o planned ready few narrow p m
     rw (planned, reached) (ap (λ (ss : List spec.Standing). record { reached = moment; calls = ss }) stood)
 
 -- What a call line tells where the call took a slot.
-pub call-tells : (old : Replay) (script : Script) (call width first : ℕ) (b : Begun) (o : Option (Plan MapKind MergeKind)) (p' : Plan MapKind MergeKind) → o ≡ Some p' → IsReady script old → (p : Place old.pool width first b) → spec.call_tells (spec.is_full script (replay_of old)) call o ≡ []
+pub call-tells : (old : Replay) (script : Script) (call width first : ℕ) (b : Begun) (o : Option (Plan MapKind MergeKind)) (p' : Plan MapKind MergeKind) → o ≡ Some p' → IsReady script old
+    → (p : Place old.pool width first b) → spec.call_tells (spec.is_full script (replay_of old)) call o ≡ []
 call-tells old script call width first b o p' planned ready p =
     ap (spec.call_tells (spec.is_full script (replay_of old)) call) planned ∙ ap (λ v. spec.new_tells v call) (isn't-full script old p.slot p.next ready p.at)
 
 -- A call that found no slot.
-full-joined : (old new : Replay) (script : Script) (call : ℕ) → IsReady script old → new.calls.entries ≡ old.calls.entries ++ (call, None) ∷ [] → IsDistinct nat_eq (keys_of new.calls.entries) → Joined old.pool old.pool old.calls.entries call None (full call)
+full-joined : (old new : Replay) (script : Script) (call : ℕ) → IsReady script old → new.calls.entries ≡ old.calls.entries ++ (call, None) ∷ []
+    → IsDistinct nat_eq (keys_of new.calls.entries) → Joined old.pool old.pool old.calls.entries call None (full call)
 full-joined old new script call ready put once = full-begins old.pool old.calls.entries call ready.sound (subst (λ es. IsDistinct nat_eq (keys_of es)) put once)
 
-pub full-ready : (old new : Replay) (script : Script) (call : ℕ) → IsReady script old → lookup (nat_eq call) old.calls.entries ≡ None → new.pool ≡ old.pool → new.wires ≡ old.wires → new.marks ≡ old.marks → new.calls.entries ≡ old.calls.entries ++ (call, None) ∷ [] → IsDistinct nat_eq (keys_of new.calls.entries) → IsReady script new
+pub full-ready : (old new : Replay) (script : Script) (call : ℕ) → IsReady script old → lookup (nat_eq call) old.calls.entries ≡ None → new.pool ≡ old.pool → new.wires ≡ old.wires
+    → new.marks ≡ old.marks → new.calls.entries ≡ old.calls.entries ++ (call, None) ∷ [] → IsDistinct nat_eq (keys_of new.calls.entries) → IsReady script new
 full-ready old new script call ready absent_yet pool wires marks put once =
     let j = full-joined old new script call ready put once in
     record {
@@ -188,7 +209,8 @@ full-ready old new script call ready absent_yet pool wires marks put once =
       served = rw put (All-snoc (λ entry. IsServedIn script.servers entry.1) old.calls.entries (call, None) ready.served tt);
     }
 
-pub full-after : (old new : Replay) (script : Script) (moment call : ℕ) (text : List ℕ) (p' : Plan MapKind MergeKind) (o : Option (Plan MapKind MergeKind)) → o ≡ Some p' → IsReady script old → lowest old.pool ≡ None → new.pool ≡ old.pool → new.reached ≡ moment → new.calls.entries ≡ old.calls.entries ++ (call, None) ∷ []
+pub full-after : (old new : Replay) (script : Script) (moment call : ℕ) (text : List ℕ) (p' : Plan MapKind MergeKind) (o : Option (Plan MapKind MergeKind)) → o ≡ Some p' → IsReady script old
+    → lowest old.pool ≡ None → new.pool ≡ old.pool → new.reached ≡ moment → new.calls.entries ≡ old.calls.entries ++ (call, None) ∷ []
     → IsDistinct nat_eq (keys_of new.calls.entries) → replay_of new ≡ spec.call_after script (replay_of old) moment call text o
 full-after old new script moment call text p' o planned ready none pool reached put once =
     let j = full-joined old new script call ready put once in
@@ -196,7 +218,8 @@ full-after old new script moment call text p' o planned ready none pool reached 
     rw (pool, put) (j.stands ∙ sym (ap (λ v. standings old.pool old.calls.entries ++ spec.stand_new v call p' text moment ∷ []) (is-full script old ready none))) in
     rw (planned, reached) (ap (λ (ss : List spec.Standing). record { reached = moment; calls = ss }) stood)
 
-pub full-tells : (old : Replay) (script : Script) (call : ℕ) (o : Option (Plan MapKind MergeKind)) (p' : Plan MapKind MergeKind) → o ≡ Some p' → IsReady script old → lowest old.pool ≡ None → spec.call_tells (spec.is_full script (replay_of old)) call o ≡ TellsFull call ∷ []
+pub full-tells : (old : Replay) (script : Script) (call : ℕ) (o : Option (Plan MapKind MergeKind)) (p' : Plan MapKind MergeKind) → o ≡ Some p' → IsReady script old → lowest old.pool ≡ None
+    → spec.call_tells (spec.is_full script (replay_of old)) call o ≡ TellsFull call ∷ []
 full-tells old script call o p' planned ready none =
     ap (spec.call_tells (spec.is_full script (replay_of old)) call) planned ∙ ap (λ v. spec.new_tells v call) (is-full script old ready none)
 
@@ -205,7 +228,8 @@ pub absent : (entries : List (ℕ × Option Ticket)) (call : ℕ) (rest : List �
 absent [] call rest d = refl
 absent ((number, o) ∷ xs) call rest d =
     let differ : nat_eq number call ≡ false = behind (keys_of xs) call rest number (IsDistinct-head nat_eq number (keys_of xs ++ call ∷ rest) d) in
-    ap (λ b. if b then Some o else lookup (nat_eq call) xs) (ne_eqb call number (λ e. eqb-false number call differ (sym e))) ∙ absent xs call rest (IsDistinct-tail nat_eq number (keys_of xs ++ call ∷ rest) d)
+    ap (λ b. if b then Some o else lookup (nat_eq call) xs) (ne_eqb call number (λ e. eqb-false number call differ (sym e)))
+    ∙ absent xs call rest (IsDistinct-tail nat_eq number (keys_of xs ++ call ∷ rest) d)
   where
     behind : (ks : List ℕ) (call : ℕ) (rest : List ℕ) (number : ℕ) → AllByRecursion (λ y. nat_eq number y ≡ false) (ks ++ call ∷ rest) → nat_eq number call ≡ false
     behind [] call rest number h = h.0

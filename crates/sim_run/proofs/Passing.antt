@@ -1,5 +1,6 @@
 -- What passes on the wires while a call acts: the requests that the plain machine sends, and no other.
-use Rattle.std.proofs.Common.{◌≡◌, ◌≢◌, ℕ, zero, suc, ◌-◌, max, Bool, true, false, cond, nat_le, List, [], ◌∷◌, ◌++◌, fold, Option, Some, None, is_some, refl, ap, sym, ◌∙◌, append_assoc, if◌then◌else◌}
+use Rattle.std.proofs.Common.{◌≡◌, ◌≢◌, ℕ, zero, suc, ◌-◌, max, Bool, true, false, cond, nat_le, List, [], ◌∷◌, ◌++◌, fold, Option, Some, None, is_some, refl, ap, sym, ◌∙◌, append_assoc}
+use Rattle.std.proofs.Common.{if◌then◌else◌}
 use Rattle.std.proofs.lemmas.Bool.{eq-eqb, ne_eqb}
 use Rattle.std.proofs.lemmas.List.{append-nil}
 use Rattle.std.proofs.lemmas.List.Elements.{filter-append}
@@ -45,14 +46,16 @@ posted-passed first plan call (s ∷ ss) wires =
     posted-passed first plan call ss (posted_one first plan call s wires) ∙ ap (passed (requests first plan call ss)) (posted-at (place plan s) first call s wires)
     ∙ sym (passed-append (request_at (place plan s) first call s) (requests first plan call ss) wires)
 
-pub posted-append : (first : ℕ) (plan : Plan MapKind MergeKind) (call : ℕ) (xs ys : List Send) (wires : List Link) → posted first plan call (xs ++ ys) wires ≡ posted first plan call ys (posted first plan call xs wires)
+pub posted-append : (first : ℕ) (plan : Plan MapKind MergeKind) (call : ℕ) (xs ys : List Send) (wires : List Link)
+    → posted first plan call (xs ++ ys) wires ≡ posted first plan call ys (posted first plan call xs wires)
 posted-append first plan call [] ys wires = refl
 posted-append first plan call (x ∷ xs) ys wires = posted-append first plan call xs ys (posted_one first plan call x wires)
 
 pub requests-append : (first : ℕ) (plan : Plan MapKind MergeKind) (call : ℕ) (xs ys : List Send) → requests first plan call (xs ++ ys) ≡ requests first plan call xs ++ requests first plan call ys
 requests-append first plan call [] ys = refl
 requests-append first plan call (x ∷ xs) ys =
-    ap (λ ps. request_at (place plan x) first call x ++ ps) (requests-append first plan call xs ys) ∙ sym (append_assoc (request_at (place plan x) first call x) (requests first plan call xs) (requests first plan call ys))
+    ap (λ ps. request_at (place plan x) first call x ++ ps) (requests-append first plan call xs ys)
+    ∙ sym (append_assoc (request_at (place plan x) first call x) (requests first plan call xs) (requests first plan call ys))
 
 pub in-append : (call : ℕ) (xs ys : List Passage) → requests_in call (xs ++ ys) ≡ requests_in call xs ++ requests_in call ys
 in-append call xs ys = filter-append (is_request call) xs ys
@@ -61,7 +64,8 @@ in-append call xs ys = filter-append (is_request call) xs ys
 pub requests-own : (first : ℕ) (plan : Plan MapKind MergeKind) (call : ℕ) (sends : List Send) → requests_in call (requests first plan call sends) ≡ requests first plan call sends
 requests-own first plan call [] = refl
 requests-own first plan call (s ∷ ss) =
-    in-append call (request_at (place plan s) first call s) (requests first plan call ss) ∙ ap (λ ps. ps ++ requests_in call (requests first plan call ss)) (at (place plan s)) ∙ ap (λ ps. request_at (place plan s) first call s ++ ps) (requests-own first plan call ss)
+    in-append call (request_at (place plan s) first call s) (requests first plan call ss) ∙ ap (λ ps. ps ++ requests_in call (requests first plan call ss)) (at (place plan s))
+    ∙ ap (λ ps. request_at (place plan s) first call s ++ ps) (requests-own first plan call ss)
   where
     at : (o : Option ℕ) → requests_in call (request_at o first call s) ≡ request_at o first call s
     at None = refl
@@ -70,7 +74,8 @@ requests-own first plan call (s ∷ ss) =
 pub requests-other : (c first : ℕ) (plan : Plan MapKind MergeKind) (call : ℕ) (sends : List Send) → c ≢ call → requests_in c (requests first plan call sends) ≡ []
 requests-other c first plan call [] differ = refl
 requests-other c first plan call (s ∷ ss) differ =
-    in-append c (request_at (place plan s) first call s) (requests first plan call ss) ∙ ap (λ ps. ps ++ requests_in c (requests first plan call ss)) (at (place plan s)) ∙ requests-other c first plan call ss differ
+    in-append c (request_at (place plan s) first call s) (requests first plan call ss) ∙ ap (λ ps. ps ++ requests_in c (requests first plan call ss)) (at (place plan s))
+    ∙ requests-other c first plan call ss differ
   where
     at : (o : Option ℕ) → requests_in c (request_at o first call s) ≡ []
     at None = refl
@@ -99,12 +104,16 @@ then-speaks : (first : ℕ) (a b c : Acting) → Speaks first a b → Speaks fir
 then-speaks first a b c h k = record {
   events = h.events ++ k.events;
   sends = h.sends ++ k.sends;
-  wires = k.wires ∙ ap (λ p. posted first p b.call.call k.sends b.wires) h.plan ∙ ap (λ n. posted first a.call.plan n k.sends b.wires) h.number ∙ ap (posted first a.call.plan a.call.call k.sends) h.wires
+  wires =
+      k.wires ∙ ap (λ p. posted first p b.call.call k.sends b.wires) h.plan ∙ ap (λ n. posted first a.call.plan n k.sends b.wires) h.number ∙ ap (posted first a.call.plan a.call.call k.sends) h.wires
       ∙ sym (posted-append first a.call.plan a.call.call h.sends k.sends a.wires);
   number = k.number ∙ h.number;
   plan = k.plan ∙ h.plan;
-  state = λ run e. ap (λ (r : Run MapKind MergeKind). r.state) (both run) ∙ ap (λ n. (ran n (ran a.call.call run h.events) k.events).state) (sym h.number) ∙ k.state (ran a.call.call run h.events) (h.state run e);
-  sent = λ run e. ap (λ (r : Run MapKind MergeKind). r.sends) (both run) ∙ ap (λ n. (ran n (ran a.call.call run h.events) k.events).sends) (sym h.number) ∙ k.sent (ran a.call.call run h.events) (h.state run e)
+  state = λ run e. ap (λ (r : Run MapKind MergeKind). r.state) (both run) ∙ ap (λ n. (ran n (ran a.call.call run h.events) k.events).state) (sym h.number)
+      ∙ k.state (ran a.call.call run h.events) (h.state run e);
+  sent =
+      λ run e. ap (λ (r : Run MapKind MergeKind). r.sends) (both run) ∙ ap (λ n. (ran n (ran a.call.call run h.events) k.events).sends) (sym h.number)
+      ∙ k.sent (ran a.call.call run h.events) (h.state run e)
       ∙ ap (λ ss. ss ++ k.sends) (h.sent run e) ∙ append_assoc run.sends h.sends k.sends;
 }
   where
@@ -131,7 +140,8 @@ woven-speaks : (count first moment : ℕ) (a : Acting) → Speaks first a (woven
 woven-speaks zero first moment a = same-speaks first a
 woven-speaks (suc count) first moment a = by (least_mark a.call.waiting) (λ c. woven-speaks count first moment c)
   where
-    by : (o : Option (CallMark × List CallMark)) → ((c : Acting) → Speaks first c (woven_at_most count first moment c)) → Speaks first a (woven_least (woven_at_most count first moment) first moment a o)
+    by : (o : Option (CallMark × List CallMark)) → ((c : Acting) → Speaks first c (woven_at_most count first moment c))
+        → Speaks first a (woven_least (woven_at_most count first moment) first moment a o)
     by None again = same-speaks first a
     by (Some (mark, others)) again = at (nat_le mark.moment moment)
       where
@@ -143,12 +153,15 @@ finished-speaks : (count first reached : ℕ) (a : Acting) → Speaks first a (f
 finished-speaks zero first reached a = same-speaks first a
 finished-speaks (suc count) first reached a = at (is_some (end_of a.call.state)) (λ r c. finished-speaks count first r c)
   where
-    by : (o : Option (CallMark × List CallMark)) → ((r : ℕ) (c : Acting) → Speaks first c (finished_at_most count first r c).1) → Speaks first a (finished_least (finished_at_most count first) first reached a o).1
+    by : (o : Option (CallMark × List CallMark)) → ((r : ℕ) (c : Acting) → Speaks first c (finished_at_most count first r c).1)
+        → Speaks first a (finished_least (finished_at_most count first) first reached a o).1
     by None again = same-speaks first a
     by (Some (mark, others)) again =
-        then-speaks first a (taken first a mark others) (finished_at_most count first (max reached mark.moment) (taken first a mark others)).1 (taken-speaks first a mark others) (again (max reached mark.moment) (taken first a mark others))
+        then-speaks first a (taken first a mark others) (finished_at_most count first (max reached mark.moment) (taken first a mark others)).1 (taken-speaks first a mark others)
+        (again (max reached mark.moment) (taken first a mark others))
 
-    at : (v : Bool) → ((r : ℕ) (c : Acting) → Speaks first c (finished_at_most count first r c).1) → Speaks first a (cond v (reached, a) (finished_least (finished_at_most count first) first reached a (least_mark a.call.waiting))).1
+    at : (v : Bool) → ((r : ℕ) (c : Acting) → Speaks first c (finished_at_most count first r c).1)
+        → Speaks first a (cond v (reached, a) (finished_least (finished_at_most count first) first reached a (least_mark a.call.waiting))).1
     at true again = same-speaks first a
     at false again = by (least_mark a.call.waiting) again
 
@@ -160,7 +173,8 @@ pub joined-speaks : (reached first : ℕ) (a : Acting) → Speaks first a (joine
 joined-speaks reached first a = finished-speaks (marks_left a.call) first reached a
 
 -- Whatever an id finds, more passed.
-pub acts-passed : (id : ℕ) (d : ℕ → Acting → Acting) (x : Seen Begun) (wires : List Link) (marks : List Mark) → ((first : ℕ) (a : Acting) → Speaks first a (d first a)) → HavePassed wires (acts_by id d x wires marks).0
+pub acts-passed : (id : ℕ) (d : ℕ → Acting → Acting) (x : Seen Begun) (wires : List Link) (marks : List Mark) → ((first : ℕ) (a : Acting) → Speaks first a (d first a))
+    → HavePassed wires (acts_by id d x wires marks).0
 acts-passed id d Nothing wires marks speaks = ([], refl)
 acts-passed id d (Unlocked r k) wires marks speaks =
     let sp = speaks (id - k) (record { call = r.value; wires = wires; marks = marks }) in

@@ -55,8 +55,11 @@ range-finds slots bound j k s open_ low at within =
     let below = range.below in
     let id = make_id-plus j s.first k in
     let slot : slot_of (make_id j s.first + k) ≡ Some j = ap slot_of id ∙ slot_of-make_id j (s.first + k) (omega (arith, below, low, within)) in
-    let version : version_of (make_id j s.first + k) ≡ s.first + k = ap version_of id ∙ version_of-make_id j (s.first + k) (omega (arith, below, low, within)) in
-    (slot, look-at (make_id j s.first + k) slots (Taken s) (ap (λ o. slot_at o slots) slot ∙ at) ∙ seen-taken (version_of (make_id j s.first + k)) s (Some k) _ (ap (offset s) version ∙ offset-in s k within) range.free)
+    let version : version_of (make_id j s.first + k) ≡ s.first + k = ap version_of id ∙ version_of-make_id j (s.first + k) (omega (arith, below, low, within)) in (
+      slot,
+      look-at (make_id j s.first + k) slots (Taken s) (ap (λ o. slot_at o slots) slot ∙ at)
+          ∙ seen-taken (version_of (make_id j s.first + k)) s (Some k) _ (ap (offset s) version ∙ offset-in s k within) range.free,
+    )
 
 same-number : (i j : ℕ) → Some i ≡ Some j → i ≡ j
 same-number i j e = cc
@@ -74,16 +77,19 @@ wakes : (slots : List (Slot Begun)) (ticket : Ticket) (moment : ℕ) → Changes
 wakes slots ticket moment = record { on_begun = λ b e. refl; on_told = λ call. refl; later = λ b. turned-later (turn.Due moment) b; fit = λ n b fit. turned-fit n (turn.Due moment) b fit }
 
 due-works : (slots : List (Slot Begun)) (ticket : Ticket) (moment : ℕ) → Works slots ticket (turned_by (turn.Due moment)) (turned (turn.Due moment)) (settle moment)
-due-works slots ticket moment = record { speaks = λ first a. turned-speaks (turn.Due moment) first a; call = λ first a. turned-call (turn.Due moment) first a; on_begun = λ b value state e. e; on_told = λ call. refl }
+due-works slots ticket moment =
+    record { speaks = λ first a. turned-speaks (turn.Due moment) first a; call = λ first a. turned-call (turn.Due moment) first a; on_begun = λ b value state e. e; on_told = λ call. refl }
 
 -- what a mark that is taken leaves: of slots and marks, and fewer of what may come
 pub record Wakes (slots after : List (Slot Begun)) (rest marks : List Mark) (entries : List (ℕ × Option Ticket)) (call moment : ℕ) : Type 0 where
   pub brought : Brings slots after marks entries call (settle moment)
   pub fewer : length marks + 2 * total_left after ≤ length rest + 2 * total_left slots
 
-pub mark-taken : (slots : List (Slot Begun)) (wires : List Link) (entries : List (ℕ × Option Ticket)) (call k moment : ℕ) (ticket : Ticket) (mark : Mark) (rest : List Mark) → IsSound slots entries → length entries ≤ 500000 → lookup (nat_eq call) entries ≡ Some (Some ticket)
+pub mark-taken : (slots : List (Slot Begun)) (wires : List Link) (entries : List (ℕ × Option Ticket)) (call k moment : ℕ) (ticket : Ticket) (mark : Mark) (rest : List Mark)
+    → IsSound slots entries → length entries ≤ 500000 → lookup (nat_eq call) entries ≡ Some (Some ticket)
     → k < width_of ticket → mark.id ≡ ticket.first + k → mark.moment ≤ moment → AreMarked (mark ∷ rest) slots → AreOwned entries rest
-    → Wakes slots (changed (visit (turned (turn.Due moment)) (version_of (ticket.first + k))) (ticket.first + k) slots) rest (acts_by (ticket.first + k) (turned_by (turn.Due moment)) (look (ticket.first + k) slots) wires rest).1 entries call moment
+    → Wakes slots (changed (visit (turned (turn.Due moment)) (version_of (ticket.first + k))) (ticket.first + k) slots) rest
+    (acts_by (ticket.first + k) (turned_by (turn.Due moment)) (look (ticket.first + k) slots) wires rest).1 entries call moment
 mark-taken slots wires entries call k moment ticket mark rest sound few at within own due marked owned = by (value_says (look ticket.first slots)) refl
   where
     id : ℕ
@@ -106,7 +112,8 @@ mark-taken slots wires entries call k moment ticket mark rest sound few at withi
         let silent : (acts_by id (turned_by (turn.Due moment)) (look id slots) wires rest).1 ≡ rest = ap (λ x. (acts_by id (turned_by (turn.Due moment)) x wires rest).1) nothing in
         let left : AreMarked rest slots = λ j s there'.
         drop-mark mark (make_id j s.first) s.size s.value.waiting rest (slot-of-all (IsSlot (most entries)) j slots (Taken s) sound.open_slots there').fit.nodes
-        (λ node less e. let finds = range-finds slots (most entries) j node s sound.open_slots low there' less in let both : Nothing ≡ Unlocked s node = sym nothing ∙ ap (λ i. look i slots) (sym own ∙ e) ∙ finds.1 in cc) (marked j s there') in
+        (λ node less e. let finds = range-finds slots (most entries) j node s sound.open_slots low there' less in let both : Nothing ≡ Unlocked s node = sym nothing
+        ∙ ap (λ i. look i slots) (sym own ∙ e) ∙ finds.1 in cc) (marked j s there') in
         let a = ap (λ (ss : List (Slot Begun)). total_left ss) same in
         let b = ap length silent in
         record {
@@ -135,10 +142,12 @@ mark-taken slots wires entries call k moment ticket mark rest sound few at withi
         let past = kept.own (λ m. moment < m) (past-marks moment first mark l.r.value.waiting rest due (marked l.slot l.r l.at)) in
         let call_is = turned-call (turn.Due moment) first a in
         let mine : HasIf (λ m. moment < m) first (weave moment l.r.value).waiting after.marks = subst (λ (c : Begun). HasIf (λ m. moment < m) first c.waiting after.marks) call_is past in
-        let done : HasMarks first (weave moment l.r.value).waiting after.marks = all-if (λ m. moment < m) first (weave moment l.r.value).waiting after.marks (weave-rest l.r.size moment l.r.value range.fit) mine in
+        let done : HasMarks first (weave moment l.r.value).waiting after.marks =
+        all-if (λ m. moment < m) first (weave moment l.r.value).waiting after.marks (weave-rest l.r.size moment l.r.value range.fit) mine in
         let step = marked-step slots l.slot l.r (visited l.r (weave moment l.r.value)) g a after l.at is refl done kept.others
         (λ j s differ there. drop-mark mark (make_id j s.first) s.size s.value.waiting rest (slot-of-all (IsSlot (most entries)) j slots (Taken s) sound.open_slots there).fit.nodes
-        (λ node less e. let finds = range-finds slots (most entries) j node s sound.open_slots low there less in differ (same-number l.slot j (sym it.slot ∙ ap slot_of (sym own ∙ e) ∙ finds.0))) (marked j s there)) in
+        (λ node less e. let finds = range-finds slots (most entries) j node s sound.open_slots low there less in differ
+        (same-number l.slot j (sym it.slot ∙ ap slot_of (sym own ∙ e) ∙ finds.0))) (marked j s there)) in
         let fewer = (turned-fewer (turn.Due moment) first a).marks in
         let total = total-change l.slot g slots (Taken l.r) l.at in
         let own_left = ap left_in is in
@@ -165,7 +174,8 @@ pub record IsReaching (script : Script) (old now : Replay) (moment : ℕ) : Type
   pub passed : HavePassed old.wires.items now.wires.items
 
 -- Replays of the same calls whose standings come to the same.
-same-settled : (now new : Replay) (moment : ℕ) → now.reached ≡ moment → new.reached ≡ moment → new.calls ≡ now.calls → map (settle moment) (standings new.pool now.calls.entries) ≡ map (settle moment) (standings now.pool now.calls.entries)
+same-settled : (now new : Replay) (moment : ℕ) → now.reached ≡ moment → new.reached ≡ moment → new.calls ≡ now.calls
+    → map (settle moment) (standings new.pool now.calls.entries) ≡ map (settle moment) (standings now.pool now.calls.entries)
     → settled (replay_of new) ≡ settled (replay_of now)
 same-settled now new moment before after calls stood = rw (before, after, calls) (ap (λ (ss : List Standing). record { reached = moment; calls = ss }) stood)
 
@@ -174,7 +184,8 @@ pub record Reaches (script : Script) (old now new : Replay) (moment : ℕ) : Typ
   pub reaching : IsReaching script old new moment
   pub fewer : length new.marks + 2 * total_left new.pool < length now.marks + 2 * total_left now.pool
 
-pub reaching-turn : (script : Script) (old now new : Replay) (moment : ℕ) (mark : Mark) → IsReaching script old now moment → length now.calls.entries ≤ 500000 → Some mark ≡ due_mark moment now.marks → new.reached ≡ now.reached → new.calls ≡ now.calls
+pub reaching-turn : (script : Script) (old now new : Replay) (moment : ℕ) (mark : Mark) → IsReaching script old now moment → length now.calls.entries ≤ 500000
+    → Some mark ≡ due_mark moment now.marks → new.reached ≡ now.reached → new.calls ≡ now.calls
     → new.pool ≡ changed (visit (turned (turn.Due moment)) (version_of mark.id)) mark.id now.pool
     → (new.wires.items, new.marks) ≡ acts_by mark.id (turned_by (turn.Due moment)) (look mark.id now.pool) now.wires.items (rest_after moment now.marks) → Reaches script old now new moment
 reaching-turn script old now new moment mark r few is_due reached calls pool acts =
@@ -184,14 +195,22 @@ reaching-turn script old now new moment mark r few is_due reached calls pool act
     let own = all.0 in
     let t = turn.Due moment in
     let marks_are : new.marks ≡ (acts_by mark.id (turned_by t) (look mark.id now.pool) now.wires.items rest).1 = ap (λ (p : List Link × List Mark). p.1) acts in
-    let woke = mark-taken now.pool now.wires.items now.calls.entries own.call own.place moment own.ticket mark rest r.ready.sound few own.found own.within own.is was.due (subst (λ ms. AreMarked ms now.pool) was.is r.ready.marked) all.1 in
+    let woke =
+    mark-taken now.pool now.wires.items now.calls.entries own.call own.place moment own.ticket mark rest r.ready.sound few own.found own.within own.is was.due
+    (subst (λ ms. AreMarked ms now.pool) was.is r.ready.marked) all.1 in
     let here : Wakes now.pool new.pool rest new.marks now.calls.entries own.call moment =
-    rw (pool, marks_are) (subst (λ i. Wakes now.pool (changed (visit (turned t) (version_of i)) i now.pool) rest (acts_by i (turned_by t) (look i now.pool) now.wires.items rest).1 now.calls.entries own.call moment) (sym own.is) woke) in
+    rw (pool, marks_are) (subst
+    (λ i. Wakes now.pool (changed (visit (turned t) (version_of i)) i now.pool) rest (acts_by i (turned_by t) (look i now.pool) now.wires.items rest).1 now.calls.entries own.call moment)
+    (sym own.is) woke) in
     let wires_are : new.wires.items ≡ (acts_by mark.id (turned_by t) (look mark.id now.pool) now.wires.items rest).0 = ap (λ (p : List Link × List Mark). p.0) acts in
-    let w = wired-acts script.servers now.pool new.pool now.calls.entries now.wires.items rest own.call own.place own.ticket (turned_by t) (turned t) (settle moment) (due-works now.pool own.ticket moment) r.ready.sound few own.found own.within (entry-of (IsServedIn script.servers) own.call (Some own.ticket) now.calls.entries r.ready.served own.found) here.brought.follows r.ready.wired in
+    let w =
+    wired-acts script.servers now.pool new.pool now.calls.entries now.wires.items rest own.call own.place own.ticket (turned_by t) (turned t) (settle moment)
+    (due-works now.pool own.ticket moment) r.ready.sound few own.found own.within
+    (entry-of (IsServedIn script.servers) own.call (Some own.ticket) now.calls.entries r.ready.served own.found) here.brought.follows r.ready.wired in
     let wired : AreWired script.servers new.pool now.calls.entries new.wires.items =
     rw wires_are (subst (λ i. AreWired script.servers new.pool now.calls.entries (acts_by i (turned_by t) (look i now.pool) now.wires.items rest).0) (sym own.is) w) in
-    let stood : map (settle moment) (standings new.pool now.calls.entries) ≡ map (settle moment) (standings now.pool now.calls.entries) = ap (map (settle moment)) here.brought.follows.stands ∙ settle-first (is_call own.call) moment (standings now.pool now.calls.entries) in
+    let stood : map (settle moment) (standings new.pool now.calls.entries) ≡ map (settle moment) (standings now.pool now.calls.entries) =
+    ap (map (settle moment)) here.brought.follows.stands ∙ settle-first (is_call own.call) moment (standings now.pool now.calls.entries) in
     let moments : new.reached ≡ moment = reached ∙ r.reached in
     let l = ap length was.is in
     let less = here.fewer in
@@ -201,7 +220,8 @@ reaching-turn script old now new moment mark r few is_due reached calls pool act
         reached = moments;
         calls = calls ∙ r.calls;
         alike = same-settled now new moment r.reached moments calls stood ∙ r.alike;
-        passed = then-passed old.wires.items now.wires.items new.wires.items r.passed (rw wires_are (acts-passed mark.id (turned_by t) (look mark.id now.pool) now.wires.items rest (λ first a. turned-speaks t first a)));
+        passed = then-passed old.wires.items now.wires.items new.wires.items r.passed
+            (rw wires_are (acts-passed mark.id (turned_by t) (look mark.id now.pool) now.wires.items rest (λ first a. turned-speaks t first a)));
       };
       fewer = omega (arith, l, less);
     }

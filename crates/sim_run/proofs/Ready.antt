@@ -59,7 +59,8 @@ opened-marked n slots marks is slot r at = absurd (opened-vacant n slot r (sym (
 -- ---- one call's step
 
 -- A step of one call leaves a replay ready.
-pub ready-brings : (script : Script) (old new : Replay) (call : ℕ) (f : spec.Standing → spec.Standing) → IsReady script old → Brings old.pool new.pool new.marks old.calls.entries call f → new.calls ≡ old.calls
+pub ready-brings : (script : Script) (old new : Replay) (call : ℕ) (f : spec.Standing → spec.Standing) → IsReady script old → Brings old.pool new.pool new.marks old.calls.entries call f
+    → new.calls ≡ old.calls
     → AreWired script.servers new.pool old.calls.entries new.wires.items → IsReady script new
 ready-brings script old new call f ready brought calls wired = record {
   sound = rw calls brought.follows.sound;
@@ -71,7 +72,8 @@ ready-brings script old new call f ready brought calls wired = record {
 }
 
 -- An event leaves the plain machine's replay after it.
-pub event-replay : (old new : Replay) (call : ℕ) (event : Event) → Follows old.pool new.pool old.calls.entries call (spec.event_after event old.reached) → new.calls ≡ old.calls → new.reached ≡ old.reached
+pub event-replay : (old new : Replay) (call : ℕ) (event : Event) → Follows old.pool new.pool old.calls.entries call (spec.event_after event old.reached) → new.calls ≡ old.calls
+    → new.reached ≡ old.reached
     → replay_of new ≡ spec.call_event (replay_of old) old.reached call event
 event-replay old new call event follows calls reached =
     rw (calls, reached) (ap (λ (ss : List spec.Standing). record { reached = old.reached; calls = ss }) follows.stands)
@@ -85,16 +87,19 @@ no_ticket None e ticket same = absurd (cc)
 no_ticket (Some o) e ticket same = cc
 
 -- Where no call in a slot waits for a due mark, a ticket's ids find no such call.
-pub settled-at : (moment : ℕ) (slots : List (Slot Begun)) (entries : List (ℕ × Option Ticket)) (call : ℕ) (ticket : Ticket) → AreSettled moment slots → IsSound slots entries → lookup (nat_eq call) entries ≡ Some (Some ticket) → IsSettledAt moment slots ticket
+pub settled-at : (moment : ℕ) (slots : List (Slot Begun)) (entries : List (ℕ × Option Ticket)) (call : ℕ) (ticket : Ticket) → AreSettled moment slots → IsSound slots entries
+    → lookup (nat_eq call) entries ≡ Some (Some ticket) → IsSettledAt moment slots ticket
 settled-at moment slots entries call ticket settled sound found b value =
     let known = known-of slots call (Some ticket) entries sound.known found in
     let l = lives slots call ticket b (most entries) known sound.open_slots value in
     subst (λ c. weave moment c ≡ c) l.value (settled l.slot l.r l.at)
 
 -- An event that comes by the call's own id.
-pub own-event : (script : Script) (old : Replay) (after : List (Slot Begun)) (wires : List Link) (marks : List Mark) (call : ℕ) (ticket : Ticket) (event : Event) → IsReady script old → length old.calls.entries ≤ 500000 → AreSettled old.reached old.pool
+pub own-event : (script : Script) (old : Replay) (after : List (Slot Begun)) (wires : List Link) (marks : List Mark) (call : ℕ) (ticket : Ticket) (event : Event) → IsReady script old
+    → length old.calls.entries ≤ 500000 → AreSettled old.reached old.pool
     → Some ticket ≡ ticket_in (lookup (nat_eq call) old.calls.entries) → after ≡ changed (visit (turned (turn.Event event old.reached)) (version_of ticket.first)) ticket.first old.pool
-    → (wires, marks) ≡ acts_by ticket.first (turned_by (turn.Event event old.reached)) (look ticket.first old.pool) old.wires.items old.marks → Brings old.pool after marks old.calls.entries call (spec.event_after event old.reached)
+    → (wires, marks) ≡ acts_by ticket.first (turned_by (turn.Event event old.reached)) (look ticket.first old.pool) old.wires.items old.marks
+    → Brings old.pool after marks old.calls.entries call (spec.event_after event old.reached)
 own-event script old after wires marks call ticket event ready few settled found is out =
     let looked = some_ticket (lookup (nat_eq call) old.calls.entries) ticket (sym found) in
     let known = known-of old.pool call (Some ticket) old.calls.entries ready.sound.known looked in
@@ -104,10 +109,12 @@ own-event script old after wires marks call ticket event ready few settled found
     let does = event-changes old.pool ticket event old.reached (settled-at old.reached old.pool old.calls.entries call ticket settled ready.sound looked) in
     let moved = brings old.pool old.wires.items old.marks old.calls.entries call ticket (turned_by t) (turned t) f 0 (turn-does t) does ready.sound few looked known.0 ready.marked ready.owned in
     let set : marks ≡ (acts_by ticket.first (turned_by t) (look ticket.first old.pool) old.wires.items old.marks).1 = ap (λ (p : List Link × List Mark). p.1) out in
-    rw (is, set) (subst (λ id. Brings old.pool (changed (visit (turned t) (version_of id)) id old.pool) (acts_by id (turned_by t) (look id old.pool) old.wires.items old.marks).1 old.calls.entries call f) same moved)
+    rw (is, set) (subst
+    (λ id. Brings old.pool (changed (visit (turned t) (version_of id)) id old.pool) (acts_by id (turned_by t) (look id old.pool) old.wires.items old.marks).1 old.calls.entries call f) same moved)
 
 -- An event works as the machine's, where no mark of the call is due.
-pub event-works : (slots : List (Slot Begun)) (ticket : Ticket) (event : Event) (moment : ℕ) → IsSettledAt moment slots ticket → Works slots ticket (turned_by (turn.Event event moment)) (turned (turn.Event event moment)) (spec.event_after event moment)
+pub event-works : (slots : List (Slot Begun)) (ticket : Ticket) (event : Event) (moment : ℕ) → IsSettledAt moment slots ticket
+    → Works slots ticket (turned_by (turn.Event event moment)) (turned (turn.Event event moment)) (spec.event_after event moment)
 event-works slots ticket event moment settled = record {
   speaks = λ first a. turned-speaks (turn.Event event moment) first a;
   call = λ first a. turned-call (turn.Event event moment) first a;
@@ -116,7 +123,8 @@ event-works slots ticket event moment settled = record {
 }
 
 -- What an event that comes by the call's own id leaves of the wires.
-pub own-wired : (script : Script) (old : Replay) (after : List (Slot Begun)) (wires : List Link) (marks : List Mark) (call : ℕ) (ticket : Ticket) (event : Event) → IsReady script old → length old.calls.entries ≤ 500000 → AreSettled old.reached old.pool
+pub own-wired : (script : Script) (old : Replay) (after : List (Slot Begun)) (wires : List Link) (marks : List Mark) (call : ℕ) (ticket : Ticket) (event : Event) → IsReady script old
+    → length old.calls.entries ≤ 500000 → AreSettled old.reached old.pool
     → Some ticket ≡ ticket_in (lookup (nat_eq call) old.calls.entries) → Follows old.pool after old.calls.entries call (spec.event_after event old.reached)
     → (wires, marks) ≡ acts_by ticket.first (turned_by (turn.Event event old.reached)) (look ticket.first old.pool) old.wires.items old.marks → AreWired script.servers after old.calls.entries wires
 own-wired script old after wires marks call ticket event ready few settled found follows out =
@@ -126,7 +134,9 @@ own-wired script old after wires marks call ticket event ready few settled found
     let t = turn.Event event old.reached in
     let works = event-works old.pool ticket event old.reached (settled-at old.reached old.pool old.calls.entries call ticket settled ready.sound looked) in
     let set : wires ≡ (acts_by ticket.first (turned_by t) (look ticket.first old.pool) old.wires.items old.marks).0 = ap (λ (p : List Link × List Mark). p.0) out in
-    let w = wired-acts script.servers old.pool after old.calls.entries old.wires.items old.marks call 0 ticket (turned_by t) (turned t) (spec.event_after event old.reached) works ready.sound few looked known.0 (entry-of (IsServedIn script.servers) call (Some ticket) old.calls.entries ready.served looked) follows ready.wired in
+    let w =
+    wired-acts script.servers old.pool after old.calls.entries old.wires.items old.marks call 0 ticket (turned_by t) (turned t) (spec.event_after event old.reached) works ready.sound few
+    looked known.0 (entry-of (IsServedIn script.servers) call (Some ticket) old.calls.entries ready.served looked) follows ready.wired in
     rw set (subst (λ id. AreWired script.servers after old.calls.entries (acts_by id (turned_by t) (look id old.pool) old.wires.items old.marks).0) same w)
 
 -- An event of a call without a ticket.

@@ -42,7 +42,8 @@ use Rattle.sim_run.proofs.Ready.{some_ticket, settled-at, event-works}
 pub record IsLow (ticket : Ticket) : Type 0 where
   pub first : ticket.first < 4097 * 2 ^ 32
 
-low-slot : (slots : List (Slot Begun)) (ticket : Ticket) (bound : ℕ) (o : Option ℕ) (m : Option (Slot Begun)) → slot_of ticket.first ≡ o → slot_at o slots ≡ m → IsOfSlot ticket m → AllByRecursion (IsSlot bound) slots → bound < 2 ^ 32 → length slots ≤ 4096 → IsLow ticket
+low-slot : (slots : List (Slot Begun)) (ticket : Ticket) (bound : ℕ) (o : Option ℕ) (m : Option (Slot Begun)) → slot_of ticket.first ≡ o → slot_at o slots ≡ m → IsOfSlot ticket m
+    → AllByRecursion (IsSlot bound) slots → bound < 2 ^ 32 → length slots ≤ 4096 → IsLow ticket
 low-slot slots ticket bound None m p q of open_ low few = absurd (let none : m ≡ None = sym q in subst (IsOfSlot ticket) none of)
 low-slot slots ticket bound (Some i) None p q of open_ low few = absurd of
 low-slot slots ticket bound (Some i) (Some slot) p q of open_ low few =
@@ -50,11 +51,13 @@ low-slot slots ticket bound (Some i) (Some slot) p q of open_ low few =
     let within = slice_get-within i slots slot q in
     record { first = omega (arith, h, within, few) }
 
-pub ticket-low : (script : Script) (old : Replay) (call : ℕ) (ticket : Ticket) → IsReady script old → length old.calls.entries ≤ 500000 → script.slots ≤ 4096 → Some ticket ≡ ticket_in (lookup (nat_eq call) old.calls.entries) → IsLow ticket
+pub ticket-low : (script : Script) (old : Replay) (call : ℕ) (ticket : Ticket) → IsReady script old → length old.calls.entries ≤ 500000 → script.slots ≤ 4096
+    → Some ticket ≡ ticket_in (lookup (nat_eq call) old.calls.entries) → IsLow ticket
 ticket-low script old call ticket ready few slots found =
     let looked = some_ticket (lookup (nat_eq call) old.calls.entries) ticket (sym found) in
     let known = known-of old.pool call (Some ticket) old.calls.entries ready.sound.known looked in
-    low-slot old.pool ticket (most old.calls.entries) (slot_of ticket.first) (slot_at (slot_of ticket.first) old.pool) refl refl known.1 ready.sound.open_slots (omega (arith, few)) (omega (arith, ready.pool, slots))
+    low-slot old.pool ticket (most old.calls.entries) (slot_of ticket.first) (slot_at (slot_of ticket.first) old.pool) refl refl known.1 ready.sound.open_slots (omega (arith, few))
+    (omega (arith, ready.pool, slots))
 
 within-list : {X : Type 0} (xs : List X) (i : ℕ) (x : X) → slice_get xs i ≡ Some x → i < length xs
 within-list [] i x e = absurd (cc)
@@ -88,8 +91,11 @@ record IsBrought (slots : List (Slot Begun)) (wires : List Link) (marks : List M
   slots_are : brought what moment id slots ≡ changed (visit (turned (turn.Event (what node attempt) moment)) (version_of id)) id slots
   acts_are : brought_wires what moment id slots wires marks ≡ acts_by id (turned_by (turn.Event (what node attempt) moment)) (look id slots) wires marks
 
-is-brought : (slots : List (Slot Begun)) (wires : List Link) (marks : List Mark) (entries : List (ℕ × Option Ticket)) (call : ℕ) (ticket : Ticket) (node attempt offset moment : ℕ) (what : ℕ → ℕ → Event) → IsSound slots entries → length entries ≤ 500000
-    → lookup (nat_eq call) entries ≡ Some (Some ticket) → offset < width_of ticket → meaning_of (plan_of ticket) offset ≡ Some (Attempt node attempt) → IsBrought slots wires marks (ticket.first + offset) node attempt moment what
+is-brought : (slots : List (Slot Begun)) (wires : List Link) (marks : List Mark) (entries : List (ℕ × Option Ticket)) (call : ℕ) (ticket : Ticket) (node attempt offset moment : ℕ)
+    (what : ℕ → ℕ → Event)
+    → IsSound slots entries → length entries ≤ 500000
+    → lookup (nat_eq call) entries ≡ Some (Some ticket) → offset < width_of ticket → meaning_of (plan_of ticket) offset ≡ Some (Attempt node attempt)
+    → IsBrought slots wires marks (ticket.first + offset) node attempt moment what
 is-brought slots wires marks entries call ticket node attempt offset moment what sound few at within means = by (value_says (look ticket.first slots)) refl
   where
     id : ℕ
@@ -119,7 +125,8 @@ is-brought slots wires marks entries call ticket node attempt offset moment what
         }
 
 -- What becomes of an attempt does to the calls what the plain machine does. The wires are those after the reply came in, or the attempt was lost.
-pub attempt-brings : (script : Script) (old : Replay) (wires : List Link) (call : ℕ) (ticket : Ticket) (node attempt id : ℕ) (what : ℕ → ℕ → Event) → IsReady script old → length old.calls.entries ≤ 500000 → AreSettled old.reached old.pool
+pub attempt-brings : (script : Script) (old : Replay) (wires : List Link) (call : ℕ) (ticket : Ticket) (node attempt id : ℕ) (what : ℕ → ℕ → Event) → IsReady script old
+    → length old.calls.entries ≤ 500000 → AreSettled old.reached old.pool
     → Some ticket ≡ ticket_in (lookup (nat_eq call) old.calls.entries) → Some id ≡ attempt_id ticket node attempt
     → Brings old.pool (brought what old.reached id old.pool) (brought_wires what old.reached id old.pool wires old.marks).1 old.calls.entries call (spec.event_after (what node attempt) old.reached)
 attempt-brings script old wires call ticket node attempt id what ready few settled found' named =
@@ -130,11 +137,13 @@ attempt-brings script old wires call ticket node attempt id what ready few settl
     let does = event-changes old.pool ticket (what node attempt) old.reached (settled-at old.reached old.pool old.calls.entries call ticket settled ready.sound looked) in
     let moved = brings old.pool wires old.marks old.calls.entries call ticket (turned_by t) (turned t) f n.offset (turn-does t) does ready.sound few looked n.within ready.marked ready.owned in
     let same = is-brought old.pool wires old.marks old.calls.entries call ticket node attempt n.offset old.reached what ready.sound few looked n.within n.means in
-    let set : (brought_wires what old.reached (ticket.first + n.offset) old.pool wires old.marks).1 ≡ (acts_by (ticket.first + n.offset) (turned_by t) (look (ticket.first + n.offset) old.pool) wires old.marks).1 = ap (λ (p : List Link × List Mark). p.1) same.acts_are in
+    let set : (brought_wires what old.reached (ticket.first + n.offset) old.pool wires old.marks).1 ≡
+    (acts_by (ticket.first + n.offset) (turned_by t) (look (ticket.first + n.offset) old.pool) wires old.marks).1 = ap (λ (p : List Link × List Mark). p.1) same.acts_are in
     rw (n.is, same.slots_are, set) moved
 
 -- What is left of the wires. They were already those after the reply came in, or the attempt was lost.
-pub attempt-wired : (script : Script) (old : Replay) (wires : List Link) (call : ℕ) (ticket : Ticket) (node attempt id : ℕ) (what : ℕ → ℕ → Event) → IsReady script old → length old.calls.entries ≤ 500000 → AreSettled old.reached old.pool
+pub attempt-wired : (script : Script) (old : Replay) (wires : List Link) (call : ℕ) (ticket : Ticket) (node attempt id : ℕ) (what : ℕ → ℕ → Event) → IsReady script old
+    → length old.calls.entries ≤ 500000 → AreSettled old.reached old.pool
     → Some ticket ≡ ticket_in (lookup (nat_eq call) old.calls.entries) → Some id ≡ attempt_id ticket node attempt → AreWired script.servers old.pool old.calls.entries wires
     → Follows old.pool (brought what old.reached id old.pool) old.calls.entries call (spec.event_after (what node attempt) old.reached)
     → AreWired script.servers (brought what old.reached id old.pool) old.calls.entries (brought_wires what old.reached id old.pool wires old.marks).0
@@ -145,20 +154,26 @@ attempt-wired script old wires call ticket node attempt id what ready few settle
     let f = spec.event_after (what node attempt) old.reached in
     let works = event-works old.pool ticket (what node attempt) old.reached (settled-at old.reached old.pool old.calls.entries call ticket settled ready.sound looked) in
     let after = brought what old.reached id old.pool in
-    let w = wired-acts script.servers old.pool after old.calls.entries wires old.marks call n.offset ticket (turned_by t) (turned t) f works ready.sound few looked n.within (entry-of (IsServedIn script.servers) call (Some ticket) old.calls.entries ready.served looked) follows wired in
+    let w =
+    wired-acts script.servers old.pool after old.calls.entries wires old.marks call n.offset ticket (turned_by t) (turned t) f works ready.sound few looked n.within
+    (entry-of (IsServedIn script.servers) call (Some ticket) old.calls.entries ready.served looked) follows wired in
     let same = is-brought old.pool wires old.marks old.calls.entries call ticket node attempt n.offset old.reached what ready.sound few looked n.within n.means in
-    let set : (brought_wires what old.reached (ticket.first + n.offset) old.pool wires old.marks).0 ≡ (acts_by (ticket.first + n.offset) (turned_by t) (look (ticket.first + n.offset) old.pool) wires old.marks).0 = ap (λ (p : List Link × List Mark). p.0) same.acts_are in
+    let set : (brought_wires what old.reached (ticket.first + n.offset) old.pool wires old.marks).0 ≡
+    (acts_by (ticket.first + n.offset) (turned_by t) (look (ticket.first + n.offset) old.pool) wires old.marks).0 = ap (λ (p : List Link × List Mark). p.0) same.acts_are in
     let here : AreWired script.servers after old.calls.entries (brought_wires what old.reached (ticket.first + n.offset) old.pool wires old.marks).0 = rw set w in
     subst (λ i. AreWired script.servers after old.calls.entries (brought_wires what old.reached i old.pool wires old.marks).0) (sym n.is) here
 
 -- The wires after a reply or a loss that came by its attempt's id, and after one that named no attempt.
-pub aimed-wires : (change : ℕ → Link → Link) (what : ℕ → ℕ → Event) (old : Replay) (new came : List Link) (ticket : Ticket) (call node attempt id server : ℕ) → new ≡ (brought_wires what old.reached id old.pool came old.marks).0
-    → came ≡ on_wire server (change id) old.wires.items → server ≡ server_to (plan_of ticket) call node attempt → Some id ≡ attempt_id ticket node attempt → new ≡ attempt_wires change what (Some ticket) call node attempt old
+pub aimed-wires : (change : ℕ → Link → Link) (what : ℕ → ℕ → Event) (old : Replay) (new came : List Link) (ticket : Ticket) (call node attempt id server : ℕ)
+    → new ≡ (brought_wires what old.reached id old.pool came old.marks).0
+    → came ≡ on_wire server (change id) old.wires.items → server ≡ server_to (plan_of ticket) call node attempt → Some id ≡ attempt_id ticket node attempt
+    → new ≡ attempt_wires change what (Some ticket) call node attempt old
 aimed-wires change what old new came ticket call node attempt id server is wire to named =
     is ∙ ap (λ ws. (brought_wires what old.reached id old.pool ws old.marks).0) wire ∙ ap (λ s. wires_by (Some id) change what ticket s node attempt old) to
     ∙ ap (λ o. wires_by o change what ticket (server_to (plan_of ticket) call node attempt) node attempt old) named
 
-pub unaimed-wires : (change : ℕ → Link → Link) (what : ℕ → ℕ → Event) (old : Replay) (new : List Link) (ticket : Ticket) (call node attempt : ℕ) → new ≡ event_wires (Some ticket) (what node attempt) old → attempt_id ticket node attempt ≡ None
+pub unaimed-wires : (change : ℕ → Link → Link) (what : ℕ → ℕ → Event) (old : Replay) (new : List Link) (ticket : Ticket) (call node attempt : ℕ)
+    → new ≡ event_wires (Some ticket) (what node attempt) old → attempt_id ticket node attempt ≡ None
     → new ≡ attempt_wires change what (Some ticket) call node attempt old
 unaimed-wires change what old new ticket call node attempt is none =
     is ∙ ap (λ o. wires_by o change what ticket (server_to (plan_of ticket) call node attempt) node attempt old) (sym none)

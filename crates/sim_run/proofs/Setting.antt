@@ -6,12 +6,14 @@ use Rattle.sim_run.specs.Link.{Link}
 use Rattle.sim_run.specs.Wires.{idle_wire, idle_wires, on_wire}
 
 -- A mark that isn't set before the one at a place is set behind it.
-behind-suc : (mark : Mark) (ws : List Mark) (i : ℕ) (d : Mark) → i < length ws → is_before mark (get_or ws i d) ≡ false → take i ws ++ set_mark mark (drop i ws) ≡ take (suc i) ws ++ set_mark mark (drop (suc i) ws)
+behind-suc : (mark : Mark) (ws : List Mark) (i : ℕ) (d : Mark) → i < length ws → is_before mark (get_or ws i d) ≡ false
+    → take i ws ++ set_mark mark (drop i ws) ≡ take (suc i) ws ++ set_mark mark (drop (suc i) ws)
 behind-suc mark [] i d less e = absurd (omega (arith, less))
 behind-suc mark (w ∷ ws) zero d less e = ap (λ b. cond b (mark ∷ w ∷ ws) (w ∷ set_mark mark ws)) e
 behind-suc mark (w ∷ ws) (suc i) d less e = ap (λ xs. w ∷ xs) (behind-suc mark ws i d (omega (arith, less)) e)
 
-pub behind : (mark : Mark) (ws : List Mark) (i : ℕ) (d : Mark) → i < length ws → is_before mark (get_or ws i d) ≡ false → take i ws ++ set_mark mark (drop i ws) ≡ take (i + 1) ws ++ set_mark mark (drop (i + 1) ws)
+pub behind : (mark : Mark) (ws : List Mark) (i : ℕ) (d : Mark) → i < length ws → is_before mark (get_or ws i d) ≡ false
+    → take i ws ++ set_mark mark (drop i ws) ≡ take (i + 1) ws ++ set_mark mark (drop (i + 1) ws)
 behind mark ws i d less e = let same : suc i ≡ i + 1 = omega arith in subst (λ n. take i ws ++ set_mark mark (drop i ws) ≡ take n ws ++ set_mark mark (drop n ws)) same (behind-suc mark ws i d less e)
 
 -- Otherwise it is set at the place.

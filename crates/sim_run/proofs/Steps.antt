@@ -1,5 +1,6 @@
 -- What an event and a join make of the slots is what the plain machine makes of the calls.
-use Rattle.std.proofs.Common.{◌≡◌, ◌≢◌, ℕ, ◌+◌, ◌-◌, ◌*◌, ◌/◌, ◌^◌, ◌<◌, ◌≤◌, inl, inr, leb, ltb, ◌&&◌, true, false, nat_eq, List, length, slice_get, find, count_by, Option, None, Some, ap, sym, refl, ◌∙◌, subst, arith, if◌then◌else◌}
+use Rattle.std.proofs.Common.{◌≡◌, ◌≢◌, ℕ, ◌+◌, ◌-◌, ◌*◌, ◌/◌, ◌^◌, ◌<◌, ◌≤◌, inl, inr, leb, ltb, ◌&&◌, true, false, nat_eq, List, length, slice_get, find, count_by, Option, None, Some, ap}
+use Rattle.std.proofs.Common.{sym, refl, ◌∙◌, subst, arith, if◌then◌else◌}
 use Rattle.std.proofs.lemmas.Bool.Decides.{nat_tests}
 use Rattle.std.specs.List.{AllByRecursion}
 use Rattle.std.specs.Map.{lookup}
@@ -45,12 +46,14 @@ value-at r o b e free = by o (subst (λ st. value_says (seen_at r o st) ≡ Some
     by (Some k) e = cc
 
 -- nothing is found before a range
-nothing-before : (range : Ticket) (r : Range Begun) → version_of range.first + width_of range ≤ r.first → 1 ≤ width_of range → (k : ℕ) → k < width_of range → seen (version_of range.first + k) (Taken r) ≡ Nothing
+nothing-before : (range : Ticket) (r : Range Begun) → version_of range.first + width_of range ≤ r.first → 1 ≤ width_of range → (k : ℕ) → k < width_of range
+    → seen (version_of range.first + k) (Taken r) ≡ Nothing
 nothing-before range r before some k within =
     let out : (leb r.first (version_of range.first + k) && ltb (version_of range.first + k) (r.first + r.size)) ≡ false = grind (arith, nat_tests) in
     ap (λ o. seen_at r o r.standing) (ap (λ b. if b then Some (version_of range.first + k - r.first) else None) out)
 
-lives-at : (slots : List (Slot Begun)) (range : Ticket) (b : Begun) (bound : ℕ) (o : Option ℕ) (m : Option (Slot Begun)) → slot_of range.first ≡ o → slot_at o slots ≡ m → IsOfSlot range m → 1 ≤ width_of range
+lives-at : (slots : List (Slot Begun)) (range : Ticket) (b : Begun) (bound : ℕ) (o : Option ℕ) (m : Option (Slot Begun)) → slot_of range.first ≡ o → slot_at o slots ≡ m → IsOfSlot range m
+    → 1 ≤ width_of range
     → AllByRecursion (IsSlot bound) slots → value_says (seen_in (version_of range.first) m) ≡ Some b → Lives slots range b
 lives-at slots range b bound None m p q of some open_ e = absurd (let none : m ≡ None = sym q in subst (IsOfSlot range) none of)
 lives-at slots range b bound (Some i) None p q of some open_ e = absurd of
@@ -65,7 +68,8 @@ lives-at slots range b bound (Some i) (Some (Taken r)) p q (inr before) some ope
     let nothing : value_says (seen (version_of range.first) (Taken r)) ≡ None = ap (λ v. value_says (seen v (Taken r))) (sym zero_more) ∙ ap value_says none in
     absurd (cc)
 
-pub lives : (slots : List (Slot Begun)) (call : ℕ) (range : Ticket) (b : Begun) (bound : ℕ) → IsKnown slots call (Some range) → AllByRecursion (IsSlot bound) slots → value_says (look range.first slots) ≡ Some b → Lives slots range b
+pub lives : (slots : List (Slot Begun)) (call : ℕ) (range : Ticket) (b : Begun) (bound : ℕ) → IsKnown slots call (Some range) → AllByRecursion (IsSlot bound) slots
+    → value_says (look range.first slots) ≡ Some b → Lives slots range b
 lives slots call range b bound known open_ e = lives-at slots range b bound (slot_of range.first) (slot_at (slot_of range.first) slots) refl refl known.1 known.0 open_ e
 
 -- the bound on the versions of slots, where so many calls were told a range
@@ -73,7 +77,8 @@ abbrev pub most : List (ℕ × Option Ticket) → ℕ
 most entries = 1 + 1024 * length entries
 
 -- Other ids of the slot aren't those of its range.
-other-aside : (slots : List (Slot Begun)) (range : Ticket) (b : Begun) (l : Lives slots range b) (other : Ticket) → other.first ≢ range.first → slot_of other.first ≡ Some l.slot → IsAside other (Taken l.r)
+other-aside : (slots : List (Slot Begun)) (range : Ticket) (b : Begun) (l : Lives slots range b) (other : Ticket) → other.first ≢ range.first → slot_of other.first ≡ Some l.slot
+    → IsAside other (Taken l.r)
 other-aside slots range b l other differ here same = differ (same_id other.first range.first l.slot here l.here (same ∙ sym l.version))
 
 -- what one call's step leaves: its standing changes, and calls and slots agree again
@@ -87,8 +92,10 @@ sum-up x y c d m n p q e f = omega arith
 
 -- A slot becomes what one call's step makes of it.
 pub stepped : (slots : List (Slot Begun)) (entries : List (ℕ × Option Ticket)) (call : ℕ) (range : Ticket) (b : Begun) (g : Slot Begun → Slot Begun) (t : Slot Begun) (f : Standing → Standing)
-    → IsSound slots entries → lookup (nat_eq call) entries ≡ Some (Some range) → value_says (look range.first slots) ≡ Some b → (l : Lives slots range b) → g (Taken l.r) ≡ t → IsNext (Taken l.r) t → IsSlot (most entries) t
-    → f (begun b) ≡ stand call (value_says (seen (version_of range.first) t)) → IsOf range t → IsNumbered call range (value_says (seen (version_of range.first) t)) → is_begun (f (begun b)) ≡ is_taken t
+    → IsSound slots entries → lookup (nat_eq call) entries ≡ Some (Some range) → value_says (look range.first slots) ≡ Some b → (l : Lives slots range b) → g (Taken l.r) ≡ t
+    → IsNext (Taken l.r) t → IsSlot (most entries) t
+    → f (begun b) ≡ stand call (value_says (seen (version_of range.first) t)) → IsOf range t → IsNumbered call range (value_says (seen (version_of range.first) t))
+    → is_begun (f (begun b)) ≡ is_taken t
     → Follows slots (change l.slot g slots) entries call f
 stepped slots entries call range b g t f sound found value l is next open_ stands of numbered begun' =
     let known = known-of slots call (Some range) entries sound.known found in
@@ -113,7 +120,9 @@ stepped slots entries call range b g t f sound found value l is next open_ stand
         numbers = sound.numbers;
         ids = sound.ids;
         known = m.known;
-        open_slots = All-change (IsSlot (most entries)) l.slot g slots sound.open_slots (λ s e h. let same : Taken l.r ≡ s = let both : Some (Taken l.r) ≡ Some s = sym l.at ∙ e in cc in subst (λ x. IsSlot (most entries) (g x)) same (subst (IsSlot (most entries)) (sym is) open_));
+        open_slots = All-change (IsSlot (most entries)) l.slot g slots sound.open_slots
+            (λ s e h. let same : Taken l.r ≡ s = let both : Some (Taken l.r) ≡ Some s = sym l.at
+            ∙ e in cc in subst (λ x. IsSlot (most entries) (g x)) same (subst (IsSlot (most entries)) (sym is) open_));
         counted = tally;
       };
       size = length-change l.slot g slots;
@@ -143,7 +152,8 @@ finds-in slots range b bound k l open_ low within =
     (plus-slot range.first k fits ∙ l.here, seen-taken (version_of (range.first + k)) l.r (Some k) Free (ap (offset l.r) version ∙ offset-in l.r k (omega (arith, w, within))) l.free)
 
 -- What the first id finds in the range after a visit.
-pub visited-looks : (range : Ticket) (slots : List (Slot Begun)) (b c : Begun) (l : Lives slots range b) → 1 ≤ width_of range → value_says (seen (version_of range.first) (Taken (visited l.r c))) ≡ Some c
+pub visited-looks : (range : Ticket) (slots : List (Slot Begun)) (b c : Begun) (l : Lives slots range b) → 1 ≤ width_of range
+    → value_says (seen (version_of range.first) (Taken (visited l.r c))) ≡ Some c
 visited-looks range slots b c l some =
     let w = l.width in
     let zero_more : version_of range.first ≡ l.r.first + 0 = l.version ∙ omega arith in
@@ -180,7 +190,8 @@ later-range bound r s later first size free fit range =
     }
 
 -- A change that comes by an id of the call.
-pub change-lives : (slots : List (Slot Begun)) (entries : List (ℕ × Option Ticket)) (call : ℕ) (range : Ticket) (b : Begun) (h : Begun → Begun) (f : Standing → Standing) (k : ℕ) → Changes slots range h f → IsSound slots entries → length entries ≤ 500000
+pub change-lives : (slots : List (Slot Begun)) (entries : List (ℕ × Option Ticket)) (call : ℕ) (range : Ticket) (b : Begun) (h : Begun → Begun) (f : Standing → Standing) (k : ℕ)
+    → Changes slots range h f → IsSound slots entries → length entries ≤ 500000
     → lookup (nat_eq call) entries ≡ Some (Some range) → value_says (look range.first slots) ≡ Some b → k < width_of range
     → Follows slots (changed (visit h (version_of (range.first + k))) (range.first + k) slots) entries call f
 change-lives slots entries call range b h f k does sound few found value within =
@@ -196,7 +207,10 @@ change-lives slots entries call range b h f k does sound few found value within 
     let own : IsNumbered call range (Some b) = subst (IsNumbered call range) value known.2 in
     let number : IsNumbered call range (Some (h b)) = ((does.later b).number ∙ own.0, (does.later b).plan ∙ own.1) in
     let stands : f (begun b) ≡ stand call (value_says (seen (version_of range.first) t)) = does.on_begun b value ∙ ap (stand call) (sym looks) in
-    let s = stepped slots entries call range b g t f sound found value l is (refl, refl) (later-range (most entries) l.r (visited l.r (h l.r.value)) (does.later l.r.value) refl refl refl (does.fit l.r.size l.r.value top.fit) top) stands (inl (l.version, l.width)) (subst (IsNumbered call range) (sym looks) number) (ap is_begun (does.on_begun b value)) in
+    let s =
+    stepped slots entries call range b g t f sound found value l is (refl, refl)
+    (later-range (most entries) l.r (visited l.r (h l.r.value)) (does.later l.r.value) refl refl refl (does.fit l.r.size l.r.value top.fit) top) stands (inl (l.version, l.width))
+    (subst (IsNumbered call range) (sym looks) number) (ap is_begun (does.on_begun b value)) in
     let same : changed g (range.first + k) slots ≡ change l.slot g slots = ap (λ o. change_at o g slots) here.0 in
     subst (λ after. Follows slots after entries call f) (sym same) s
 
@@ -225,33 +239,39 @@ over-at slots range bound (Some i) (Some (Taken r)) p q (inr before) some open_ 
     let top = (slot-of-all (IsSlot bound) i slots (Taken r) open_ q).below in
     record { slot = Taken r; at = ap (λ o. slot_at o slots) p ∙ q; low = omega (arith, before, top, low); nothing = nothing-before range r before some }
 
-pub is-over : (slots : List (Slot Begun)) (call : ℕ) (range : Ticket) (bound : ℕ) → IsKnown slots call (Some range) → AllByRecursion (IsSlot bound) slots → bound < 2 ^ 32 → value_says (look range.first slots) ≡ None → IsOver slots range
+pub is-over : (slots : List (Slot Begun)) (call : ℕ) (range : Ticket) (bound : ℕ) → IsKnown slots call (Some range) → AllByRecursion (IsSlot bound) slots → bound < 2 ^ 32
+    → value_says (look range.first slots) ≡ None → IsOver slots range
 is-over slots call range bound known open_ low e = over-at slots range bound (slot_of range.first) (slot_at (slot_of range.first) slots) refl refl known.1 known.0 open_ low e
 
 -- what an id of a call that was told finds
-pub over-look : (slots : List (Slot Begun)) (range : Ticket) (o : IsOver slots range) (k : ℕ) → k < width_of range → (slot_at (slot_of (range.first + k)) slots ≡ Some o.slot) × (seen (version_of (range.first + k)) o.slot ≡ Nothing)
+pub over-look : (slots : List (Slot Begun)) (range : Ticket) (o : IsOver slots range) (k : ℕ) → k < width_of range
+    → (slot_at (slot_of (range.first + k)) slots ≡ Some o.slot) × (seen (version_of (range.first + k)) o.slot ≡ Nothing)
 over-look slots range o k within =
     let low = o.low in
     let fits : version_of range.first + k < 2 ^ 32 = omega (arith, low, within) in
     (ap (λ i. slot_at i slots) (plus-slot range.first k fits) ∙ o.at, ap (λ v. seen v o.slot) (plus-version range.first k fits) ∙ o.nothing k within)
 
 -- A change that does nothing where nothing is found.
-pub over-nothing : (slots : List (Slot Begun)) (range : Ticket) (o : IsOver slots range) (k : ℕ) (g : ℕ → Slot Begun → Slot Begun) → k < width_of range → ((v : ℕ) (s : Slot Begun) → seen v s ≡ Nothing → g v s ≡ s)
+pub over-nothing : (slots : List (Slot Begun)) (range : Ticket) (o : IsOver slots range) (k : ℕ) (g : ℕ → Slot Begun → Slot Begun) → k < width_of range
+    → ((v : ℕ) (s : Slot Begun) → seen v s ≡ Nothing → g v s ≡ s)
     → changed (g (version_of (range.first + k))) (range.first + k) slots ≡ slots
 over-nothing slots range o k g within idle =
     let found = over-look slots range o k within in
     changed-nothing (range.first + k) (g (version_of (range.first + k))) slots
-    (λ s at. let same : o.slot ≡ s = let both : Some o.slot ≡ Some s = sym found.0 ∙ at in cc in subst (λ x. g (version_of (range.first + k)) x ≡ x) same (idle (version_of (range.first + k)) o.slot found.1))
+    (λ s at. let same : o.slot ≡ s = let both : Some o.slot ≡ Some s = sym found.0
+    ∙ at in cc in subst (λ x. g (version_of (range.first + k)) x ≡ x) same (idle (version_of (range.first + k)) o.slot found.1))
 
 -- The standing of a call that was told.
-pub over-standing : (slots : List (Slot Begun)) (entries : List (ℕ × Option Ticket)) (call : ℕ) (range : Ticket) → AllByRecursion (λ entry. IsKnown slots entry.0 entry.1) entries → lookup (nat_eq call) entries ≡ Some (Some range)
+pub over-standing : (slots : List (Slot Begun)) (entries : List (ℕ × Option Ticket)) (call : ℕ) (range : Ticket) → AllByRecursion (λ entry. IsKnown slots entry.0 entry.1) entries
+    → lookup (nat_eq call) entries ≡ Some (Some range)
     → value_says (look range.first slots) ≡ None → find (is_call call) (standings slots entries) ≡ Some (told_of call)
 over-standing slots entries call range known found none = find-standing slots call entries known ∙ ap (option_map (standing_at slots call)) found ∙ ap (λ x. Some (stand call x)) none
 
 pub idle-if : (f : Standing → Standing) (y : Standing) (o : Option Standing) → o ≡ Some y → f y ≡ y → (x : Standing) → o ≡ Some x → f x ≡ x
 idle-if f y o p idle x q = let same : y ≡ x = let both : Some y ≡ Some x = sym p ∙ q in cc in subst (λ z. f z ≡ z) same idle
 
-change-over : (slots : List (Slot Begun)) (entries : List (ℕ × Option Ticket)) (call : ℕ) (range : Ticket) (h : Begun → Begun) (f : Standing → Standing) (k : ℕ) → Changes slots range h f → IsSound slots entries → length entries ≤ 500000
+change-over : (slots : List (Slot Begun)) (entries : List (ℕ × Option Ticket)) (call : ℕ) (range : Ticket) (h : Begun → Begun) (f : Standing → Standing) (k : ℕ) → Changes slots range h f
+    → IsSound slots entries → length entries ≤ 500000
     → lookup (nat_eq call) entries ≡ Some (Some range) → value_says (look range.first slots) ≡ None → k < width_of range
     → Follows slots (changed (visit h (version_of (range.first + k))) (range.first + k) slots) entries call f
 change-over slots entries call range h f k does sound few found none within =
@@ -263,7 +283,8 @@ change-over slots entries call range h f k does sound few found none within =
     subst (λ after. Follows slots after entries call f) (sym same) (record { stands = sym idle; sound = sound; size = refl })
 
 -- A change that comes by an id of the call does to the calls what the plain machine does.
-pub change-moved : (slots : List (Slot Begun)) (entries : List (ℕ × Option Ticket)) (call : ℕ) (range : Ticket) (h : Begun → Begun) (f : Standing → Standing) (k : ℕ) → Changes slots range h f → IsSound slots entries → length entries ≤ 500000
+pub change-moved : (slots : List (Slot Begun)) (entries : List (ℕ × Option Ticket)) (call : ℕ) (range : Ticket) (h : Begun → Begun) (f : Standing → Standing) (k : ℕ)
+    → Changes slots range h f → IsSound slots entries → length entries ≤ 500000
     → lookup (nat_eq call) entries ≡ Some (Some range) → k < width_of range
     → Follows slots (changed (visit h (version_of (range.first + k))) (range.first + k) slots) entries call f
 change-moved slots entries call range h f k does sound few found within = by (value_says (look range.first slots)) refl
@@ -277,7 +298,8 @@ abbrev pub IsSettledAt : ℕ → List (Slot Begun) → Ticket → Type 0
 IsSettledAt moment slots range = (b : Begun) → value_says (look range.first slots) ≡ Some b → weave moment b ≡ b
 
 -- An event does what the plain machine's does, where no mark of the call is due.
-pub event-changes : (slots : List (Slot Begun)) (range : Ticket) (event : Event) (moment : ℕ) → IsSettledAt moment slots range → Changes slots range (turned (turn.Event event moment)) (event_after event moment)
+pub event-changes : (slots : List (Slot Begun)) (range : Ticket) (event : Event) (moment : ℕ) → IsSettledAt moment slots range
+    → Changes slots range (turned (turn.Event event moment)) (event_after event moment)
 event-changes slots range event moment settled = record {
   on_begun = λ b e. ap begun (ap (λ d. apply d event moment) (settled b e));
   on_told = λ call. refl;
@@ -289,7 +311,8 @@ event-changes slots range event moment settled = record {
 pub event-nothing : (slots : List (Slot Begun)) (entries : List (ℕ × Option Ticket)) (call : ℕ) (event : Event) (moment : ℕ) → AllByRecursion (λ entry. IsKnown slots entry.0 entry.1) entries
     → ((range : Ticket) → lookup (nat_eq call) entries ≢ Some (Some range)) → standings slots entries ≡ change_first (is_call call) (event_after event moment) (standings slots entries)
 event-nothing slots entries call event moment known none =
-    sym (change_first-nothing (is_call call) (event_after event moment) (standings slots entries) (λ s found. by (lookup (nat_eq call) entries) refl s (sym (find-standing slots call entries known) ∙ found)))
+    sym (change_first-nothing (is_call call) (event_after event moment) (standings slots entries)
+    (λ s found. by (lookup (nat_eq call) entries) refl s (sym (find-standing slots call entries known) ∙ found)))
   where
     by : (o : Option (Option Ticket)) → lookup (nat_eq call) entries ≡ o → (s : Standing) → option_map (standing_at slots call) o ≡ Some s → event_after event moment s ≡ s
     by None e s h = absurd (cc)

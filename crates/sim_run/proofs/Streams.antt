@@ -1,5 +1,6 @@
 -- A stream of which every frame was taken hands out the next whole frame.
-use Rattle.std.proofs.Common.{◌≡◌, ◌≢◌, ℕ, ◌+◌, ◌*◌, ◌/◌, ◌%◌, ◌^◌, ◌<◌, ◌≤◌, ℤ, pos, List, [], ◌∷◌, ◌++◌, length, All, None, Some, Result, Ok, Err, ap, sym, refl, ◌∙◌, arith, length-append, zero, suc, nat_lt, Bool, true, false, if◌then◌else◌}
+use Rattle.std.proofs.Common.{◌≡◌, ◌≢◌, ℕ, ◌+◌, ◌*◌, ◌/◌, ◌%◌, ◌^◌, ◌<◌, ◌≤◌, ℤ, pos, List, [], ◌∷◌, ◌++◌, length, All, None, Some, Result, Ok, Err, ap, sym, refl, ◌∙◌, arith, length-append}
+use Rattle.std.proofs.Common.{zero, suc, nat_lt, Bool, true, false, if◌then◌else◌}
 use Rattle.std.proofs.lemmas.List.{append-nil}
 use Rattle.std.proofs.lemmas.List.Elements.{All-cons, All-nil}
 use Rattle.std.specs.Int.{w64, cast_unsigned}
@@ -17,7 +18,9 @@ use Rattle.sim_run.specs.Link.{IsIdle, reply_frame}
 
 -- what the law of spellings says
 abbrev pub BeginsWithSpelled : Type 0
-BeginsWithSpelled = (at : ℕ) (fs : List Frame) (more : List ℕ) → at < 2 ^ 64 → All (λ f. IsFitting f × IsTyped f.meta) fs → frames at (all_bytes fs ++ more) ≡ joined fs (frames (later at (length (all_bytes fs))) more)
+BeginsWithSpelled =
+    (at : ℕ) (fs : List Frame) (more : List ℕ) → at < 2 ^ 64 → All (λ f. IsFitting f × IsTyped f.meta) fs
+    → frames at (all_bytes fs ++ more) ≡ joined fs (frames (later at (length (all_bytes fs))) more)
 
 -- the stream of one whole frame
 abbrev pub holding : ℕ → Frame → Stream

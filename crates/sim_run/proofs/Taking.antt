@@ -32,18 +32,24 @@ due-some moment b n r mark e some = by (least_mark b.waiting) refl e
             (record { others = others; least = l ∙ ap (λ (x : Mark). Some (x, others)) same; left = ap (λ (p : Option Mark × Begun). p.1) e }, subst (λ (x : Mark). x.moment ≤ moment) same due)
         at false t e = let both : Some mark ≡ None = sym some ∙ ap (λ (p : Option Mark × Begun). p.0) e in absurd (cc)
 
-due-none : (moment : ℕ) (b n : Begun) (r : Option Mark) → (r, n) ≡ due_taken moment b → r ≡ None → (n ≡ b) × ((mark : Mark) (others : List Mark) → least_mark b.waiting ≡ Some (mark, others) → moment < mark.moment)
+due-none : (moment : ℕ) (b n : Begun) (r : Option Mark) → (r, n) ≡ due_taken moment b → r ≡ None
+    → (n ≡ b) × ((mark : Mark) (others : List Mark) → least_mark b.waiting ≡ Some (mark, others) → moment < mark.moment)
 due-none moment b n r e none = by (least_mark b.waiting) refl e
   where
-    by : (o : Option (Mark × List Mark)) → least_mark b.waiting ≡ o → (r, n) ≡ due_least moment b o → (n ≡ b) × ((mark : Mark) (others : List Mark) → least_mark b.waiting ≡ Some (mark, others) → moment < mark.moment)
+    by : (o : Option (Mark × List Mark)) → least_mark b.waiting ≡ o → (r, n) ≡ due_least moment b o
+        → (n ≡ b) × ((mark : Mark) (others : List Mark) → least_mark b.waiting ≡ Some (mark, others) → moment < mark.moment)
     by None l e = (ap (λ (p : Option Mark × Begun). p.1) e, λ mark others k. let both = sym l ∙ k in absurd (cc))
     by (Some (m, rest)) l e = at (nat_le m.moment moment) refl e
       where
-        at : (v : Bool) → nat_le m.moment moment ≡ v → (r, n) ≡ cond {A = Option Mark × Begun} v (Some m, record b { waiting = rest }) (None, b) → (n ≡ b) × ((mark : Mark) (others : List Mark) → least_mark b.waiting ≡ Some (mark, others) → moment < mark.moment)
+        at : (v : Bool) → nat_le m.moment moment ≡ v → (r, n) ≡ cond {A = Option Mark × Begun} v (Some m, record b { waiting = rest }) (None, b)
+            → (n ≡ b) × ((mark : Mark) (others : List Mark) → least_mark b.waiting ≡ Some (mark, others) → moment < mark.moment)
         at true t e = let both : None ≡ Some m = sym none ∙ ap (λ (p : Option Mark × Begun). p.0) e in absurd (cc)
         at false t e =
-            let late : moment < m.moment = grind (arith, nat_tests) in
-            (ap (λ (p : Option Mark × Begun). p.1) e, λ mark others k. let both : Some (m, rest) ≡ Some (mark, others) = sym l ∙ k in let pair : (m, rest) ≡ (mark, others) = cc in subst (λ (x : Mark). moment < x.moment) (ap (λ (p : Mark × List Mark). p.0) pair) late)
+            let late : moment < m.moment = grind (arith, nat_tests) in (
+              ap (λ (p : Option Mark × Begun). p.1) e,
+              λ mark others k. let both : Some (m, rest) ≡ Some (mark, others) = sym l
+                  ∙ k in let pair : (m, rest) ≡ (mark, others) = cc in subst (λ (x : Mark). moment < x.moment) (ap (λ (p : Mark × List Mark). p.0) pair) late,
+            )
 
 -- what a turn of a loop leaves: the mark was due, what is to come is the same, and less is left
 pub record WeaveTurn (first moment : ℕ) (a : Acting) (n : Begun) (mark : Mark) : Type 0 where
@@ -99,6 +105,7 @@ finish-end first reached a n r e none = at (is_some (end_of a.call.state)) refl 
     by None l e = (ap (λ (p : Option Mark × Begun). p.1) e, finished-none first reached a l)
     by (Some (m, others)) l e = let both : None ≡ Some m = sym none ∙ ap (λ (p : Option Mark × Begun). p.0) e in absurd (cc)
 
-    at : (v : Bool) → is_some (end_of a.call.state) ≡ v → (r, n) ≡ cond {A = Option Mark × Begun} v (None, a.call) (open_least a.call (least_mark a.call.waiting)) → (n ≡ a.call) × (finished_by first reached a ≡ (reached, a))
+    at : (v : Bool) → is_some (end_of a.call.state) ≡ v → (r, n) ≡ cond {A = Option Mark × Begun} v (None, a.call) (open_least a.call (least_mark a.call.waiting))
+        → (n ≡ a.call) × (finished_by first reached a ≡ (reached, a))
     at true t e = (ap (λ (p : Option Mark × Begun). p.1) e, finished-over first reached a t)
     at false t e = by (least_mark a.call.waiting) refl e

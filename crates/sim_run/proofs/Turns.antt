@@ -1,5 +1,6 @@
 -- One turn of the replay's loop.
-use Rattle.std.proofs.Common.{◌≡◌, ℕ, ◌+◌, ◌^◌, ◌<◌, ◌≤◌, nat_eq, false, List, ◌++◌, [], ◌∷◌, length, get_or, take, drop, Result, Ok, Err, OnErr, sym, ap, refl, ◌∙◌, append_assoc, subst, arith, length-append}
+use Rattle.std.proofs.Common.{◌≡◌, ℕ, ◌+◌, ◌^◌, ◌<◌, ◌≤◌, nat_eq, false, List, ◌++◌, [], ◌∷◌, length, get_or, take, drop, Result, Ok, Err, OnErr, sym, ap, refl, ◌∙◌, append_assoc, subst}
+use Rattle.std.proofs.Common.{arith, length-append}
 use Rattle.std.proofs.lemmas.List.{at_drop_more}
 use Rattle.std.specs.List.{IsDistinct, AllByRecursion}
 use Rattle.std.specs.Map.{keys_of}
@@ -22,7 +23,8 @@ use Rattle.sim_run.specs.Desk.{IsNew, IsFront}
 pub alike-tells : (script : Script) (now machine : Replay) (act : Act) → settled now ≡ settled machine → tells script now act ≡ tells script machine act
 alike-tells script now machine act alike = sym (tells-same script now act) ∙ ap (λ r. tells script r act) alike ∙ tells-same script machine act
 
-pub alike-after : (script : Script) (now machine next : Replay) (act : Act) → settled now ≡ settled machine → settled next ≡ settled (after script now act) → settled next ≡ settled (after script machine act)
+pub alike-after : (script : Script) (now machine next : Replay) (act : Act) → settled now ≡ settled machine → settled next ≡ settled (after script now act)
+    → settled next ≡ settled (after script machine act)
 alike-after script now machine next act alike is = is ∙ sym (after-settled script now act) ∙ ap (λ r. settled (after script r act)) alike ∙ after-settled script machine act
 
 -- What was told, with what this line tells, goes on to the same.
@@ -49,7 +51,8 @@ pub record HasLed (script : Script) (acts : List Act) (i : ℕ) (replay : Replay
   pub all : acts ≡ before ++ drop i acts
   pub is : replay ≡ after_all script unbegun before
 
-pub turn-led : (script : Script) (acts : List Act) (i : ℕ) (replay : Replay) (act : Act) → i < length acts → act ≡ get_or acts i act → HasLed script acts i replay → HasLed script acts (i + 1) (after script replay act)
+pub turn-led : (script : Script) (acts : List Act) (i : ℕ) (replay : Replay) (act : Act) → i < length acts → act ≡ get_or acts i act → HasLed script acts i replay
+    → HasLed script acts (i + 1) (after script replay act)
 turn-led script acts i replay act less item led =
     let rest : drop i acts ≡ act ∷ drop (i + 1) acts = at_drop_more (λ xs. xs) acts i act less ∙ ap (λ (a : Act). a ∷ drop (i + 1) acts) (sym item) in
     record {
@@ -79,12 +82,15 @@ called-few (Tick at) = omega arith
 called-few (Join call) = omega arith
 
 -- the numbers of the calls so far and of the lines to come
-turn-called : (keys : List ℕ) (acts : List Act) (i : ℕ) (act : Act) → i < length acts → act ≡ get_or acts i act → keys ++ called (drop i acts) ≡ (keys ++ called (act ∷ [])) ++ called (drop (i + 1) acts)
+turn-called : (keys : List ℕ) (acts : List Act) (i : ℕ) (act : Act) → i < length acts → act ≡ get_or acts i act
+    → keys ++ called (drop i acts) ≡ (keys ++ called (act ∷ [])) ++ called (drop (i + 1) acts)
 turn-called keys acts i act h item =
-    ap (λ (xs : List ℕ). keys ++ xs) (at_drop_more called acts i act h ∙ ap (λ (a : Act). called (a ∷ drop (i + 1) acts)) (sym item) ∙ called-cons act (drop (i + 1) acts)) ∙ sym (append_assoc keys _ _)
+    ap (λ (xs : List ℕ). keys ++ xs) (at_drop_more called acts i act h ∙ ap (λ (a : Act). called (a ∷ drop (i + 1) acts)) (sym item) ∙ called-cons act (drop (i + 1) acts))
+    ∙ sym (append_assoc keys _ _)
 
 -- They stay distinct.
-pub turn-distinct : (keys next : List ℕ) (acts : List Act) (i : ℕ) (act : Act) → i < length acts → act ≡ get_or acts i act → IsDistinct nat_eq (keys ++ called (drop i acts)) → next ≡ keys ++ called (act ∷ [])
+pub turn-distinct : (keys next : List ℕ) (acts : List Act) (i : ℕ) (act : Act) → i < length acts → act ≡ get_or acts i act → IsDistinct nat_eq (keys ++ called (drop i acts))
+    → next ≡ keys ++ called (act ∷ [])
     → IsDistinct nat_eq (next ++ called (drop (i + 1) acts))
 turn-distinct keys next acts i act h item d n = rw n (subst (IsDistinct nat_eq) (turn-called keys acts i act h item) d)
 
@@ -98,7 +104,8 @@ distinct-front [] ys d = tt
 distinct-front (x ∷ xs) ys d = (all-front (λ y. nat_eq x y ≡ false) xs ys d.0, distinct-front xs ys d.1)
 
 -- The line's own number is new.
-pub turn-new : (entries : List (ℕ × Option Ticket)) (acts : List Act) (i : ℕ) (act : Act) → i < length acts → act ≡ get_or acts i act → IsDistinct nat_eq (keys_of entries ++ called (drop i acts)) → IsNew entries act
+pub turn-new : (entries : List (ℕ × Option Ticket)) (acts : List Act) (i : ℕ) (act : Act) → i < length acts → act ≡ get_or acts i act
+    → IsDistinct nat_eq (keys_of entries ++ called (drop i acts)) → IsNew entries act
 turn-new entries acts i act h item d =
     distinct-front (keys_of entries ++ called (act ∷ [])) (called (drop (i + 1) acts)) (subst (IsDistinct nat_eq) (turn-called (keys_of entries) acts i act h item) d)
 

@@ -48,13 +48,15 @@ in-other c log more none = in-append c log more ∙ ap (λ ps. requests_in c log
 
 sender-other : (servers c : ℕ) (o : Option Ticket) (s : Standing) (log more : List Passage) → requests_in c more ≡ [] → IsSender servers log c o s → IsSender servers (log ++ more) c o s
 sender-other servers c None s log more none h = in-other c log more none ∙ h
-sender-other servers c (Some ticket) s log more none h = record { request = h.request; moment = h.moment; events = h.events; stands = h.stands; sent = in-other c log more none ∙ h.sent; placed = h.placed }
+sender-other servers c (Some ticket) s log more none h =
+    record { request = h.request; moment = h.moment; events = h.events; stands = h.stands; sent = in-other c log more none ∙ h.sent; placed = h.placed }
 
 -- more that passed, none of it a request of another call than this one
 abbrev pub IsOnlyOf : ℕ → List Passage → Type 0
 IsOnlyOf call more = (c : ℕ) → c ≢ call → requests_in c more ≡ []
 
-senders-rest : (servers : ℕ) (slots after : List (Slot Begun)) (call : ℕ) (log more : List Passage) (xs : List (ℕ × Option Ticket)) → IsOnlyOf call more → AllByRecursion (λ y. nat_eq call y ≡ false) (keys_of xs) → standings after xs ≡ standings slots xs
+senders-rest : (servers : ℕ) (slots after : List (Slot Begun)) (call : ℕ) (log more : List Passage) (xs : List (ℕ × Option Ticket)) → IsOnlyOf call more
+    → AllByRecursion (λ y. nat_eq call y ≡ false) (keys_of xs) → standings after xs ≡ standings slots xs
     → AllByRecursion (λ entry. IsSender servers log entry.0 entry.1 (standing slots entry)) xs → AllByRecursion (λ entry. IsSender servers (log ++ more) entry.0 entry.1 (standing after entry)) xs
 senders-rest servers slots after call log more [] only apart same all = tt
 senders-rest servers slots after call log more ((number, o) ∷ xs) only apart same all =
@@ -67,9 +69,12 @@ senders-rest servers slots after call log more ((number, o) ∷ xs) only apart s
 abbrev pub Sends : ℕ → List (Slot Begun) → (Standing → Standing) → List Passage → List Passage → ℕ → Option Ticket → Type 0
 Sends servers slots f log more call o = IsSender servers log call o (standing_at slots call o) → IsSender servers (log ++ more) call o (f (standing_at slots call o))
 
-senders-step : (servers : ℕ) (slots after : List (Slot Begun)) (call : ℕ) (ticket : Ticket) (f : Standing → Standing) (log more : List Passage) (entries : List (ℕ × Option Ticket)) → AllByRecursion (λ entry. IsKnown slots entry.0 entry.1) entries → IsDistinct nat_eq (keys_of entries)
-    → lookup (nat_eq call) entries ≡ Some (Some ticket) → IsOnlyOf call more → Sends servers slots f log more call (Some ticket) → standings after entries ≡ change_first (is_call call) f (standings slots entries)
-    → AllByRecursion (λ entry. IsSender servers log entry.0 entry.1 (standing slots entry)) entries → AllByRecursion (λ entry. IsSender servers (log ++ more) entry.0 entry.1 (standing after entry)) entries
+senders-step : (servers : ℕ) (slots after : List (Slot Begun)) (call : ℕ) (ticket : Ticket) (f : Standing → Standing) (log more : List Passage) (entries : List (ℕ × Option Ticket))
+    → AllByRecursion (λ entry. IsKnown slots entry.0 entry.1) entries → IsDistinct nat_eq (keys_of entries)
+    → lookup (nat_eq call) entries ≡ Some (Some ticket) → IsOnlyOf call more → Sends servers slots f log more call (Some ticket)
+    → standings after entries ≡ change_first (is_call call) f (standings slots entries)
+    → AllByRecursion (λ entry. IsSender servers log entry.0 entry.1 (standing slots entry)) entries
+    → AllByRecursion (λ entry. IsSender servers (log ++ more) entry.0 entry.1 (standing after entry)) entries
 senders-step servers slots after call ticket f log more [] known once at only own stands all = absurd (cc)
 senders-step servers slots after call ticket f log more ((number, o) ∷ xs) known once at only own stands all = elim (found_if (nat_eq call number) o (Some ticket) (lookup (nat_eq call) xs) at) [
   | inl here ↦
@@ -86,14 +91,19 @@ senders-step servers slots after call ticket f log more ((number, o) ∷ xs) kno
       stands ∙ change_first-no (is_call call) f (standing_at slots number o) (standings slots xs) (is_call-standing slots call number o known.0 ∙ there.0) in
       let head : standing_at after number o ≡ standing_at slots number o = cc in
       let tail : standings after xs ≡ change_first (is_call call) f (standings slots xs) = cc in
-      let mine = sender-other servers number o (standing_at slots number o) log more (only number (λ e. eqb-false call number there.0 (sym e))) all.0 in
-      (subst (IsSender servers (log ++ more) number o) (sym head) mine, senders-step servers slots after call ticket f log more xs known.1 (IsDistinct-tail nat_eq number (keys_of xs) once) there.1 only own tail all.1)
+      let mine = sender-other servers number o (standing_at slots number o) log more (only number (λ e. eqb-false call number there.0 (sym e))) all.0 in (
+        subst (IsSender servers (log ++ more) number o) (sym head) mine,
+        senders-step servers slots after call ticket f log more xs known.1 (IsDistinct-tail nat_eq number (keys_of xs) once)
+            there.1 only own tail all.1,
+      )
 ]
 
 -- ---- one call's step
 
-wired-step : (servers : ℕ) (slots after : List (Slot Begun)) (entries : List (ℕ × Option Ticket)) (wires new : List Link) (call : ℕ) (ticket : Ticket) (f : Standing → Standing) (more : List Passage) → IsSound slots entries → lookup (nat_eq call) entries ≡ Some (Some ticket)
-    → Follows slots after entries call f → new ≡ passed more wires → IsOnlyOf call more → AllByRecursion (IsPassage entries) more → ((log : List Passage) → Sends servers slots f log more call (Some ticket)) → AreWired servers slots entries wires → AreWired servers after entries new
+wired-step : (servers : ℕ) (slots after : List (Slot Begun)) (entries : List (ℕ × Option Ticket)) (wires new : List Link) (call : ℕ) (ticket : Ticket) (f : Standing → Standing) (more : List Passage)
+    → IsSound slots entries → lookup (nat_eq call) entries ≡ Some (Some ticket)
+    → Follows slots after entries call f → new ≡ passed more wires → IsOnlyOf call more → AllByRecursion (IsPassage entries) more
+    → ((log : List Passage) → Sends servers slots f log more call (Some ticket)) → AreWired servers slots entries wires → AreWired servers after entries new
 wired-step servers slots after entries wires new call ticket f more sound at follows is only all own w = record {
   log = w.log ++ more;
   left = is ∙ ap (passed more) w.left ∙ sym (passed-append w.log more (idle_wires servers));
@@ -101,7 +111,8 @@ wired-step servers slots after entries wires new call ticket f more sound at fol
   all = all-append (IsPassage entries) w.log more w.all all;
 }
 
-requests-passages : (entries : List (ℕ × Option Ticket)) (call : ℕ) (ticket : Ticket) (first : ℕ) (plan : Plan MapKind MergeKind) (sends : List Send) → lookup (nat_eq call) entries ≡ Some (Some ticket) → AllByRecursion (IsPassage entries) (requests first plan call sends)
+requests-passages : (entries : List (ℕ × Option Ticket)) (call : ℕ) (ticket : Ticket) (first : ℕ) (plan : Plan MapKind MergeKind) (sends : List Send)
+    → lookup (nat_eq call) entries ≡ Some (Some ticket) → AllByRecursion (IsPassage entries) (requests first plan call sends)
 requests-passages entries call ticket first plan [] at = tt
 requests-passages entries call ticket first plan (s ∷ ss) at =
     all-append (IsPassage entries) (request_at (place plan s) first call s) (requests first plan call ss) (by (place plan s)) (requests-passages entries call ticket first plan ss at)
@@ -118,30 +129,39 @@ pub record Works (slots : List (Slot Begun)) (ticket : Ticket) (d : ℕ → Acti
   pub on_told : (call : ℕ) → f (told_of call) ≡ told_of call
 
 -- A run goes on with what a call does.
-goes-on : (servers : ℕ) (log : List Passage) (call first : ℕ) (ticket : Ticket) (b : Begun) (s : Standing) (a c : Acting) → a.call ≡ b → b.call ≡ call → b.plan ≡ plan_of ticket → (sp : Speaks first a c) → AreServed servers (plan_of ticket)
-    → ((state : State MapKind MergeKind) → c.call.state ≡ state → IsIn s state) → HasSent servers log call ticket (begun b) → HasSent servers (log ++ requests ticket.first (plan_of ticket) call sp.sends) call ticket s
+goes-on : (servers : ℕ) (log : List Passage) (call first : ℕ) (ticket : Ticket) (b : Begun) (s : Standing) (a c : Acting) → a.call ≡ b → b.call ≡ call → b.plan ≡ plan_of ticket
+    → (sp : Speaks first a c) → AreServed servers (plan_of ticket)
+    → ((state : State MapKind MergeKind) → c.call.state ≡ state → IsIn s state) → HasSent servers log call ticket (begun b)
+    → HasSent servers (log ++ requests ticket.first (plan_of ticket) call sp.sends) call ticket s
 goes-on servers log call first ticket b s a c same number planned sp served stands h =
     let more = requests ticket.first (plan_of ticket) call sp.sends in
     let run = machine script_kinds (plan_of ticket) call h.request h.moment h.events in
     let own : a.call.call ≡ call = ap (λ (x : Begun). x.call) same ∙ number in
     let here : run.state ≡ a.call.state = sym (ap (λ (x : Begun). x.state) same ∙ h.stands) in
     let goes : machine script_kinds (plan_of ticket) call h.request h.moment (h.events ++ sp.events) ≡ ran a.call.call run sp.events =
-    fold-append (λ (r : Run MapKind MergeKind) (timed : Event × ℕ). and_then r (step script_kinds call r.state timed.0 timed.1)) (start script_kinds (plan_of ticket) call h.request h.moment) h.events sp.events
+    fold-append (λ (r : Run MapKind MergeKind) (timed : Event × ℕ). and_then r (step script_kinds call r.state timed.0 timed.1)) (start script_kinds (plan_of ticket) call h.request h.moment)
+    h.events sp.events
     ∙ ap (λ n. ran n run sp.events) (sym own) in
-    let sends : (machine script_kinds (plan_of ticket) call h.request h.moment (h.events ++ sp.events)).sends ≡ run.sends ++ sp.sends = ap (λ (r : Run MapKind MergeKind). r.sends) goes ∙ sp.sent run here in
+    let sends : (machine script_kinds (plan_of ticket) call h.request h.moment (h.events ++ sp.events)).sends ≡ run.sends ++ sp.sends =
+    ap (λ (r : Run MapKind MergeKind). r.sends) goes ∙ sp.sent run here in
     record {
       request = h.request;
       moment = h.moment;
       events = h.events ++ sp.events;
       stands = stands _ (sym (ap (λ (r : Run MapKind MergeKind). r.state) goes ∙ sp.state run here));
       placed = run-placed servers (plan_of ticket) call h.request h.moment (h.events ++ sp.events) served;
-      sent = in-append call log more ∙ ap (λ ps. ps ++ requests_in call more) h.sent ∙ ap (λ ps. requests ticket.first (plan_of ticket) call run.sends ++ ps) (requests-own ticket.first (plan_of ticket) call sp.sends)
+      sent =
+          in-append call log more ∙ ap (λ ps. ps ++ requests_in call more) h.sent
+          ∙ ap (λ ps. requests ticket.first (plan_of ticket) call run.sends ++ ps) (requests-own ticket.first (plan_of ticket) call sp.sends)
           ∙ sym (requests-append ticket.first (plan_of ticket) call run.sends sp.sends) ∙ ap (requests ticket.first (plan_of ticket) call) (sym sends);
     }
 
 -- What comes to a call by one of its ids leaves the wires with what the machine sends.
-pub wired-acts : (servers : ℕ) (slots after : List (Slot Begun)) (entries : List (ℕ × Option Ticket)) (wires : List Link) (marks : List Mark) (call k : ℕ) (ticket : Ticket) (d : ℕ → Acting → Acting) (h : Begun → Begun) (f : Standing → Standing) → Works slots ticket d h f → IsSound slots entries
-    → length entries ≤ 500000 → lookup (nat_eq call) entries ≡ Some (Some ticket) → k < width_of ticket → AreServed servers (plan_of ticket) → Follows slots after entries call f → AreWired servers slots entries wires
+pub wired-acts : (servers : ℕ) (slots after : List (Slot Begun)) (entries : List (ℕ × Option Ticket)) (wires : List Link) (marks : List Mark) (call k : ℕ) (ticket : Ticket)
+    (d : ℕ → Acting → Acting) (h : Begun → Begun) (f : Standing → Standing)
+    → Works slots ticket d h f → IsSound slots entries
+    → length entries ≤ 500000 → lookup (nat_eq call) entries ≡ Some (Some ticket) → k < width_of ticket → AreServed servers (plan_of ticket) → Follows slots after entries call f
+    → AreWired servers slots entries wires
     → AreWired servers after entries (acts_by (ticket.first + k) d (look (ticket.first + k) slots) wires marks).0
 wired-acts servers slots after entries wires marks call k ticket d h f works sound few at within served follows wired = by (value_says (look ticket.first slots)) refl
   where
@@ -171,24 +191,30 @@ wired-acts servers slots after entries wires marks call k ticket d h f works sou
         let planned : l.r.value.plan ≡ plan_of ticket = ap (λ (c : Begun). c.plan) l.value ∙ own.1 in
         let numbered : l.r.value.call ≡ call = ap (λ (c : Begun). c.call) l.value ∙ own.0 in
         let is : (d first a).wires ≡ posted ticket.first (plan_of ticket) call sp.sends wires =
-        sp.wires ∙ ap (λ n. posted n l.r.value.plan l.r.value.call sp.sends wires) (sym it.own) ∙ ap (λ p. posted ticket.first p l.r.value.call sp.sends wires) planned ∙ ap (λ n. posted ticket.first (plan_of ticket) n sp.sends wires) numbered in
+        sp.wires ∙ ap (λ n. posted n l.r.value.plan l.r.value.call sp.sends wires) (sym it.own) ∙ ap (λ p. posted ticket.first p l.r.value.call sp.sends wires) planned
+        ∙ ap (λ n. posted ticket.first (plan_of ticket) n sp.sends wires) numbered in
         let more = requests ticket.first (plan_of ticket) call sp.sends in
         let before : standing_at slots call (Some ticket) ≡ begun b = ap (stand call) value in
         let does : (state : State MapKind MergeKind) → (d first a).call.state ≡ state → IsIn (f (begun b)) state =
         λ state e. works.on_begun b value state (sym (ap (λ (c : Begun). c.state) (works.call first a ∙ ap h l.value)) ∙ e) in
-        wired-step servers slots after entries wires (acts_by id d (look id slots) wires marks).0 call ticket f more sound at follows (out ∙ is ∙ posted-passed ticket.first (plan_of ticket) call sp.sends wires)
+        wired-step servers slots after entries wires (acts_by id d (look id slots) wires marks).0 call ticket f more sound at follows
+        (out ∙ is ∙ posted-passed ticket.first (plan_of ticket) call sp.sends wires)
         (λ c differ. requests-other c ticket.first (plan_of ticket) call sp.sends differ) (requests-passages entries call ticket ticket.first (plan_of ticket) sp.sends at)
-        (λ log sent. subst (λ s. IsSender servers (log ++ more) call (Some ticket) (f s)) (sym before) (goes-on servers log call first ticket b (f (begun b)) a (d first a) l.value own.0 own.1 sp served does (subst (λ s. IsSender servers log call (Some ticket) s) before sent))) wired
+        (λ log sent. subst (λ s. IsSender servers (log ++ more) call (Some ticket) (f s)) (sym before)
+        (goes-on servers log call first ticket b (f (begun b)) a (d first a) l.value own.0 own.1 sp served does (subst (λ s. IsSender servers log call (Some ticket) s) before sent))) wired
 
 -- ---- what comes in
 
-senders-all : (servers : ℕ) (slots : List (Slot Begun)) (log more : List Passage) (entries : List (ℕ × Option Ticket)) → ((c : ℕ) → requests_in c more ≡ []) → AllByRecursion (λ entry. IsSender servers log entry.0 entry.1 (standing slots entry)) entries
+senders-all : (servers : ℕ) (slots : List (Slot Begun)) (log more : List Passage) (entries : List (ℕ × Option Ticket)) → ((c : ℕ) → requests_in c more ≡ [])
+    → AllByRecursion (λ entry. IsSender servers log entry.0 entry.1 (standing slots entry)) entries
     → AllByRecursion (λ entry. IsSender servers (log ++ more) entry.0 entry.1 (standing slots entry)) entries
 senders-all servers slots log more [] none all = tt
-senders-all servers slots log more ((number, o) ∷ xs) none all = (sender-other servers number o (standing_at slots number o) log more (none number) all.0, senders-all servers slots log more xs none all.1)
+senders-all servers slots log more ((number, o) ∷ xs) none all =
+    (sender-other servers number o (standing_at slots number o) log more (none number) all.0, senders-all servers slots log more xs none all.1)
 
 -- A reply or a loss comes on a wire.
-pub wired-in : (servers : ℕ) (slots : List (Slot Begun)) (entries : List (ℕ × Option Ticket)) (wires : List Link) (p : Passage) → IsPassage entries p → ((c : ℕ) → requests_in c (p ∷ []) ≡ []) → AreWired servers slots entries wires
+pub wired-in : (servers : ℕ) (slots : List (Slot Begun)) (entries : List (ℕ × Option Ticket)) (wires : List Link) (p : Passage) → IsPassage entries p
+    → ((c : ℕ) → requests_in c (p ∷ []) ≡ []) → AreWired servers slots entries wires
     → AreWired servers slots entries (passed_one p wires)
 wired-in servers slots entries wires p of none w = record {
   log = w.log ++ p ∷ [];
@@ -201,8 +227,10 @@ wired-in servers slots entries wires p of none w = record {
 
 passage-more : (entries : List (ℕ × Option Ticket)) (last : ℕ × Option Ticket) (p : Passage) → IsPassage entries p → IsPassage (entries ++ last ∷ []) p
 passage-more entries last (went_out call server id payload) h = (h.0, lookup-more call (Some h.0) last entries h.1)
-passage-more entries last (came_in call server r) h = record { ticket = h.ticket; node = h.node; attempt = h.attempt; found = lookup-more call (Some h.ticket) last entries h.found; named = h.named; to = h.to }
-passage-more entries last (was_lost call server id) h = record { ticket = h.ticket; node = h.node; attempt = h.attempt; found = lookup-more call (Some h.ticket) last entries h.found; named = h.named; to = h.to }
+passage-more entries last (came_in call server r) h =
+    record { ticket = h.ticket; node = h.node; attempt = h.attempt; found = lookup-more call (Some h.ticket) last entries h.found; named = h.named; to = h.to }
+passage-more entries last (was_lost call server id) h =
+    record { ticket = h.ticket; node = h.node; attempt = h.attempt; found = lookup-more call (Some h.ticket) last entries h.found; named = h.named; to = h.to }
 
 passages-more : (entries : List (ℕ × Option Ticket)) (last : ℕ × Option Ticket) (log : List Passage) → AllByRecursion (IsPassage entries) log → AllByRecursion (IsPassage (entries ++ last ∷ [])) log
 passages-more entries last [] all = tt
@@ -223,7 +251,8 @@ other-number call number o p none some e = some (sym (ap (λ b. if b then o else
 lookup-behind : (call number : ℕ) (o : Option Ticket) (xs : List (ℕ × Option Ticket)) → lookup (nat_eq call) ((number, o) ∷ xs) ≡ None → number ≢ call → lookup (nat_eq call) xs ≡ None
 lookup-behind call number o xs none differ = sym (ap (λ b. if b then Some o else lookup (nat_eq call) xs) (ne_eqb call number (λ e. differ (sym e)))) ∙ none
 
-senders-more : (servers : ℕ) (slots after : List (Slot Begun)) (call : ℕ) (o : Option Ticket) (s : Standing) (log more : List Passage) (entries : List (ℕ × Option Ticket)) → standings after (entries ++ (call, o) ∷ []) ≡ standings slots entries ++ s ∷ [] → lookup (nat_eq call) entries ≡ None
+senders-more : (servers : ℕ) (slots after : List (Slot Begun)) (call : ℕ) (o : Option Ticket) (s : Standing) (log more : List Passage) (entries : List (ℕ × Option Ticket))
+    → standings after (entries ++ (call, o) ∷ []) ≡ standings slots entries ++ s ∷ [] → lookup (nat_eq call) entries ≡ None
     → IsOnlyOf call more → IsSender servers (log ++ more) call o s → AllByRecursion (λ entry. IsSender servers log entry.0 entry.1 (standing slots entry)) entries
     → AllByRecursion (λ entry. IsSender servers (log ++ more) entry.0 entry.1 (standing after entry)) (entries ++ (call, o) ∷ [])
 senders-more servers slots after call o s log more [] stands none only own all = let head : standing_at after call o ≡ s = cc in (subst (IsSender servers (log ++ more) call o) (sym head) own, tt)
@@ -235,7 +264,8 @@ senders-more servers slots after call o s log more ((number, p) ∷ xs) stands n
     (subst (IsSender servers (log ++ more) number p) (sym head) mine, senders-more servers slots after call o s log more xs tail (lookup-behind call number p xs none differ) only own all.1)
 
 -- A call begins, and its first requests go out.
-pub wired-begins : (servers : ℕ) (slots after : List (Slot Begun)) (entries : List (ℕ × Option Ticket)) (wires : List Link) (call moment : ℕ) (ticket : Ticket) (text : List ℕ) → lookup (nat_eq call) entries ≡ None → AreServed servers (plan_of ticket)
+pub wired-begins : (servers : ℕ) (slots after : List (Slot Begun)) (entries : List (ℕ × Option Ticket)) (wires : List Link) (call moment : ℕ) (ticket : Ticket) (text : List ℕ)
+    → lookup (nat_eq call) entries ≡ None → AreServed servers (plan_of ticket)
     → Joined slots after entries call (Some ticket) (begun (begin call (plan_of ticket) text moment)) → AreWired servers slots entries wires
     → AreWired servers after (entries ++ (call, Some ticket) ∷ []) (posted ticket.first (plan_of ticket) call (start script_kinds (plan_of ticket) call text moment).sends wires)
 wired-begins servers slots after entries wires call moment ticket text none served j w =
@@ -252,13 +282,15 @@ wired-begins servers slots after entries wires call moment ticket text none serv
     record {
       log = w.log ++ more;
       left = posted-passed ticket.first (plan_of ticket) call run.sends wires ∙ ap (passed more) w.left ∙ sym (passed-append w.log more (idle_wires servers));
-      senders = senders-more servers slots after call (Some ticket) (begun (begin call (plan_of ticket) text moment)) w.log more entries j.stands none (λ c differ. requests-other c ticket.first (plan_of ticket) call run.sends differ) own w.senders;
+      senders = senders-more servers slots after call (Some ticket) (begun (begin call (plan_of ticket) text moment)) w.log more entries j.stands none
+          (λ c differ. requests-other c ticket.first (plan_of ticket) call run.sends differ) own w.senders;
       all = all-append (IsPassage (entries ++ (call, Some ticket) ∷ [])) w.log more (passages-more entries (call, Some ticket) w.log w.all)
           (requests-passages (entries ++ (call, Some ticket) ∷ []) call ticket ticket.first (plan_of ticket) run.sends (lookup-last call (Some ticket) entries none));
     }
 
 -- A call finds no slot.
-pub wired-full : (servers : ℕ) (slots after : List (Slot Begun)) (entries : List (ℕ × Option Ticket)) (wires : List Link) (call : ℕ) → lookup (nat_eq call) entries ≡ None → Joined slots after entries call None (full call) → AreWired servers slots entries wires
+pub wired-full : (servers : ℕ) (slots after : List (Slot Begun)) (entries : List (ℕ × Option Ticket)) (wires : List Link) (call : ℕ) → lookup (nat_eq call) entries ≡ None
+    → Joined slots after entries call None (full call) → AreWired servers slots entries wires
     → AreWired servers after (entries ++ (call, None) ∷ []) wires
 wired-full servers slots after entries wires call none j w = record {
   log = w.log ++ [];

@@ -33,7 +33,7 @@ use Rattle.sim_run.specs.Sends.{server_to, posted}
 use Rattle.sim_run.specs.Wires.{idle_wires, on_wire, received, lost}
 use Rattle.rpc_model.specs.declared.event.Event.TheVariants as event
 use Rattle.sim_run.specs.declared.turn.Turn.TheVariants as turn
-use Rattle.sim_run.specs.Acting.{turned_by, joined_by}
+use Rattle.sim_run.specs.Acting.{turned_by}
 use Rattle.sim_run.specs.Slots.{acts_by, brought_wires}
 use Rattle.sim_run.specs.Passages.{Passage, went_out, came_in, was_lost, passed, requests, requests_in}
 
@@ -231,11 +231,6 @@ reply_wires ticket call node attempt code text old =
 
 abbrev pub loss_wires : Option Ticket → ℕ → ℕ → ℕ → ℕ → Replay → List Link
 loss_wires ticket call node attempt code old = attempt_wires lost (λ n k. event.Lost n k code) ticket call node attempt old
-
--- a join of a call takes its marks
-abbrev pub join_wires : Option Ticket → Replay → List Link
-join_wires None old = old.wires.items
-join_wires (Some ticket) old = (acts_by ticket.first (joined_by old.reached) (look ticket.first old.pool) old.wires.items old.marks).0
 
 -- a call line begins a call whose number no line before it has
 abbrev pub IsNew : List (ℕ × Option Ticket) → Act → Type 0

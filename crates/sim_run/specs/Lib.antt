@@ -9,3 +9,4 @@ pub mod Called
 pub mod Calls
 pub mod Slots
 pub mod Desk
+pub mod Closing

@@ -24,6 +24,13 @@ impl Model for CallTable {
 
     ghost Value = { Called };
 
+    ghost use Rattle.std.specs.Coded.{codes};
+    ghost use Rattle.chan_tree.specs.Code.{plan_code};
+    ghost use Rattle.rpc_model.specs.declared.kinds.MapKind.{MapKind};
+    ghost use Rattle.rpc_model.specs.declared.kinds.MergeKind.{MergeKind};
+
+    ghost coded = { Prim.hlevel (codes, plan_code {M = MapKind} {G = MergeKind} (Prim.hlevel (codes))) };
+
     ghost view = { λ t. record { entries = t.calls.items } };
 
     ghost invariant = { λ t. AreNumbers t.numbers t.calls.items };

@@ -4,6 +4,7 @@
 
 mod acting;
 mod call_table;
+mod closing;
 mod marking;
 mod open_call;
 mod planning;

@@ -8,7 +8,8 @@ ghost use Rattle.rpc_model.specs.Plan.{plan};
 ghost use Rattle.rpc_model.specs.Told as spec;
 ghost use Rattle.rpc_model.specs.declared.event.Event.TheVariants as event;
 ghost use Rattle.model_laws.specs.Early.{settled};
-ghost use Rattle.sim_run.specs.Desk.{IsReady, replay_of, ticket_of, IsNew, plan_of, first_wires, event_wires, reply_wires, loss_wires, join_wires};
+ghost use Rattle.sim_run.specs.Desk.{IsReady, replay_of, ticket_of, IsNew, plan_of, first_wires, event_wires, reply_wires, loss_wires};
+ghost use Rattle.sim_run.specs.Closing.{join_wires};
 ghost use Rattle.sim_run.specs.Marked.{AreSettled, marked};
 ghost use Rattle.sim_run.specs.Sends.{posted};
 ghost use Rattle.sim_run.specs.Passages.{HavePassed};
@@ -18,6 +19,7 @@ ghost use Rattle.rpc_model.specs.declared.told.Told.TheVariants.{Full as full};
 
 use crate::acting::post;
 use crate::call_table::CallTable;
+use crate::closing::close_told;
 use crate::marking::set_marks;
 use crate::open_call::OpenCall;
 use crate::planning::Plans;
@@ -71,8 +73,7 @@ impl Replay {
         }
     }
 
-    /// A moment is reached: the marks that are due are taken, each by the call that its id finds. A mark of a call that was
-    /// told finds none.
+    /// A moment is reached: each mark that is due is taken by the call that its id finds, if that wasn't told.
     fn reach(&mut self, script: &Script, moment: u64) -> Result<(), NoMemory>
         requires fits { Fits script.now }
         requires ready { IsReady script.now self.old }
@@ -201,7 +202,8 @@ impl Replay {
         Ok(())
     }
 
-    /// A reply to an attempt of a call comes in as a frame, and is brought to the call by the id of the attempt alone.
+    /// A reply to an attempt of a call comes in as a frame, and is brought to the call by the id of the attempt alone. What
+    /// names no attempt of the call's plan has no id by which a frame could come.
     fn reply(
         &mut self,
         alloc: Global,
@@ -228,7 +230,6 @@ impl Replay {
             return Ok(());
         };
         let Some(aim) = ticket.aim(call, node, attempt, script.servers) else {
-            // It names no attempt of the call's plan, and so no id by which a frame could come.
             let text = clone_bytes(alloc, text)?;
             let event = Event::Reply {
                 node,
@@ -302,7 +303,7 @@ impl Replay {
         requires early { (spec.call_join (replay_of self.old) call).reached < 2 ^ 60 }
         ensures ready { OnOk result (IsReady script.now self.new) }
         ensures after { OnOk result (replay_of self.new ≡ spec.call_join (replay_of self.old) call) }
-        ensures wires { OnOk result (self.new.wires.items ≡ join_wires (ticket_of call self.old) self.old) }
+        ensures wires { OnOk result (self.new.wires.items ≡ join_wires call (ticket_of call self.old) self.old) }
         ensures calls { OnOk result (self.new.calls ≡ self.old.calls) }
         ensures tells { OnOk result (told.new.items ≡ told.old.items ++ spec.join_tells (replay_of self.old).reached (find (spec.is_call call) (replay_of self.old).calls)) }
         ensures kept { OnErr result (told.new.items ≡ told.old.items) }
@@ -326,6 +327,7 @@ impl Replay {
             told.push(Told::Gone(call))?;
             return Ok(());
         };
+        close_told(&mut self.wires, &tells, ticket, call, script.servers);
         self.reached = reached;
         told.push(tells)?;
         Ok(())

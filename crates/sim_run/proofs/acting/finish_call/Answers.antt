@@ -27,7 +27,9 @@ taken-preserved c =
     let a = acting c.taken.call c.taken.wires.items c.taken.marks in
     let t = finish-turn c.args.first c.taken.reached a c.take_open.new.self c.take_open.result c.in-Some.mark c.take_open.ensures c.in-Some.is in
     ap (λ r. finished_by c.args.first r (acting c.act.new.call c.act.new.wires.items c.act.new.marks)) c.max-reached.ensures
-    ∙ ap (finished_by c.args.first (max c.taken.reached c.in-Some.mark.moment)) (c.in_ok-act.ensures ∙ ap (λ event. acted c.args.first event c.in-Some.mark.moment (record a { call = c.take_open.new.self })) c.mark_event.ensures) ∙ t.same ∙ c.taken.invariant
+    ∙ ap (finished_by c.args.first (max c.taken.reached c.in-Some.mark.moment))
+    (c.in_ok-act.ensures ∙ ap (λ event. acted c.args.first event c.in-Some.mark.moment (record a { call = c.take_open.new.self })) c.mark_event.ensures)
+    ∙ t.same ∙ c.taken.invariant
 
 pub returns-clause-moment : goal.returns-clause-moment
 returns-clause-moment c =

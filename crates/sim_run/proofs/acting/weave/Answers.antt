@@ -22,7 +22,8 @@ pub taken-preserved : goal.taken-preserved
 taken-preserved c =
     let a = acting c.taken.call c.taken.wires.items c.taken.marks in
     let t = weave-turn c.args.first c.args.moment a c.take_due.new.self c.take_due.result c.in-Some.mark c.take_due.ensures c.in-Some.is in
-    ap (woven c.args.first c.args.moment) (c.in_ok-act.ensures ∙ ap (λ event. acted c.args.first event c.in-Some.mark.moment (record a { call = c.take_due.new.self })) c.mark_event.ensures) ∙ t.same ∙ c.taken.invariant
+    ap (woven c.args.first c.args.moment) (c.in_ok-act.ensures ∙ ap (λ event. acted c.args.first event c.in-Some.mark.moment (record a { call = c.take_due.new.self })) c.mark_event.ensures)
+    ∙ t.same ∙ c.taken.invariant
 
 pub returns : goal.returns
 returns c =

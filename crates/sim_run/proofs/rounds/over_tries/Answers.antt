@@ -9,6 +9,7 @@ loop-sub-preserved c =
     record {
       turns = multiple c.loop-sub.round (length c.args.subs.now) c.common-round.result c.common-round.ensures.first c.loop-sub.invariant.turns;
       over =
-          over-next number c.args.subs.now c.loop-sub.sub-index _ c.loop-sub.round c.common-round.result c.loop-sub-test.true c.common-round.ensures.first (subst (λ n. c.common-round.result % n ≡ 0) c.round_at.ensures c.common-round.ensures.second)
+          over-next number c.args.subs.now c.loop-sub.sub-index _ c.loop-sub.round c.common-round.result c.loop-sub-test.true c.common-round.ensures.first
+          (subst (λ n. c.common-round.result % n ≡ 0) c.round_at.ensures c.common-round.ensures.second)
           c.loop-sub.invariant.over;
     }

@@ -15,4 +15,7 @@ loop-chan-preserved c =
     let is = rw c.as_slice.ensures.value at c.round_of-round.ensures in
     let here : ComesRound chans c.loop-chan.chan-index round = comes-round chans c.requires rounds inv.come c.loop-chan.chan-index c.chan-item.result round at is in
     let last : ComesRound chans (length rounds) round = rw inv.so_far here in
-    record { come = rw c.in_ok-push.ensures.items (come-next chans rounds round inv.come last); so_far = omega (arith, ap length c.in_ok-push.ensures.items, length-append rounds (round ∷ []), inv.so_far) }
+    record {
+      come = rw c.in_ok-push.ensures.items (come-next chans rounds round inv.come last);
+      so_far = omega (arith, ap length c.in_ok-push.ensures.items, length-append rounds (round ∷ []), inv.so_far);
+    }

@@ -23,4 +23,5 @@ returns-clause-after c =
 
 pub returns-clause-acts : goal.returns-clause-acts
 returns-clause-acts c =
-    (rw (c.saturating_sub-first.ensures, c.from.ensures) at c.in_ok-take.ensures.acts) ∙ locked-acts (turned_by c.args.turn) c.args.id c.in-Yes.offset c.args.pool.now c.lock.new.self c.args.wires.now.items c.args.marks.now (sym c.in-Yes.ensures.answer) c.lock.ensures.after
+    (rw (c.saturating_sub-first.ensures, c.from.ensures) at c.in_ok-take.ensures.acts)
+    ∙ locked-acts (turned_by c.args.turn) c.args.id c.in-Yes.offset c.args.pool.now c.lock.new.self c.args.wires.now.items c.args.marks.now (sym c.in-Yes.ensures.answer) c.lock.ensures.after

@@ -23,7 +23,8 @@ returns-clause-after c =
 
 pub returns-clause-acts : goal.returns-clause-acts
 returns-clause-acts c =
-    ap (λ (x : Acting). (x.wires, x.marks)) c.in_ok-reached.ensures.call ∙ ap (λ o. acts_found c.args.first (joined_by c.args.reached) o c.args.wires.now.items c.args.marks.now) c.in-Some.ensures.value
+    ap (λ (x : Acting). (x.wires, x.marks)) c.in_ok-reached.ensures.call
+    ∙ ap (λ o. acts_found c.args.first (joined_by c.args.reached) o c.args.wires.now.items c.args.marks.now) c.in-Some.ensures.value
 
 pub returns-clause-says : goal.returns-clause-says
 returns-clause-says c =

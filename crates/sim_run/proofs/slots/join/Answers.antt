@@ -5,7 +5,8 @@ use Rattle.id_pool.specs.Answers.{collect_says}
 use Rattle.sim_run.specs.Acting.{joined_by}
 use Rattle.sim_run.specs.Slots.{finished}
 use Rattle.sim_run.proofs.Changes.{visit-changed}
-use Rattle.sim_run.proofs.Joins.{finds, finds-look, finish-says, ending-own, join-over, join-open, says-nothing, join-nothing, says-open, says-over, locked-low, locked-acts, locked-early, acts-none, joins, joins-open, joins-over, not-true, not-false}
+use Rattle.sim_run.proofs.Joins.{finds, finds-look, finish-says, ending-own, join-over, join-open, says-nothing, join-nothing, says-open, says-over, locked-low, locked-acts, locked-early}
+use Rattle.sim_run.proofs.Joins.{acts-none, joins, joins-open, joins-over, not-true, not-false}
 use Rattle.sim_run.proofs.slots.join.Goals as goal
 
 pub returns-in_default : goal.returns-in_default
@@ -35,15 +36,21 @@ returns-in_default-done-clause-after c =
 
 pub returns-then-not-finished-clause-says : goal.returns-then-not-finished-clause-says
 returns-then-not-finished-clause-says c =
-    let j = joins c.args.reached c.args.first c.in-Yes.offset c.args.pool.now c.lock.new.self c.in_ok-done.done c.in-Some.finished (sym c.in-Yes.ensures.answer) c.lock.ensures.after c.in_ok-done.ensures.says c.in-Some.is in
-    says-open c.args.reached c.in-Yes.offset (look c.args.first c.args.pool.now) j.range c.in-Some.finished (finds-look c.args.first c.in-Yes.offset c.args.pool.now j.range j.finds) j.is (not-true _ c.if-not-finished.true)
+    let j =
+    joins c.args.reached c.args.first c.in-Yes.offset c.args.pool.now c.lock.new.self c.in_ok-done.done c.in-Some.finished (sym c.in-Yes.ensures.answer) c.lock.ensures.after
+    c.in_ok-done.ensures.says c.in-Some.is in
+    says-open c.args.reached c.in-Yes.offset (look c.args.first c.args.pool.now) j.range c.in-Some.finished (finds-look c.args.first c.in-Yes.offset c.args.pool.now j.range j.finds) j.is
+    (not-true _ c.if-not-finished.true)
 
 pub returns-then-not-finished-clause-after : goal.returns-then-not-finished-clause-after
 returns-then-not-finished-clause-after c =
-    let j = joins c.args.reached c.args.first c.in-Yes.offset c.args.pool.now c.lock.new.self c.in_ok-done.done c.in-Some.finished (sym c.in-Yes.ensures.answer) c.lock.ensures.after c.in_ok-done.ensures.says c.in-Some.is in
+    let j =
+    joins c.args.reached c.args.first c.in-Yes.offset c.args.pool.now c.lock.new.self c.in_ok-done.done c.in-Some.finished (sym c.in-Yes.ensures.answer) c.lock.ensures.after
+    c.in_ok-done.ensures.says c.in-Some.is in
     rw (c.unlock.ensures.after, c.in_ok-done.ensures.after, c.lock.ensures.after)
     (visit-changed (finished c.args.reached) c.args.first c.in-Yes.offset c.args.pool.now (sym c.in-Yes.ensures.answer)
-    ∙ join-open c.args.reached c.args.first c.in-Yes.offset c.args.pool.now j.range j.finds (joins-open c.args.reached c.args.first c.in-Yes.offset c.args.pool.now c.in-Some.finished j (not-true _ c.if-not-finished.true)))
+    ∙ join-open c.args.reached c.args.first c.in-Yes.offset c.args.pool.now j.range j.finds
+    (joins-open c.args.reached c.args.first c.in-Yes.offset c.args.pool.now c.in-Some.finished j (not-true _ c.if-not-finished.true)))
 
 pub returns-in_default-collect : goal.returns-in_default-collect
 returns-in_default-collect c =
@@ -55,17 +62,22 @@ returns-in_default-collect c =
 
 pub returns-clause-says : goal.returns-clause-says
 returns-clause-says c =
-    let j = joins c.args.reached c.args.first c.in-Yes.offset c.args.pool.now c.lock.new.self c.in_ok-done.done c.in-Some.finished (sym c.in-Yes.ensures.answer) c.lock.ensures.after c.in_ok-done.ensures.says c.in-Some.is in
+    let j =
+    joins c.args.reached c.args.first c.in-Yes.offset c.args.pool.now c.lock.new.self c.in_ok-done.done c.in-Some.finished (sym c.in-Yes.ensures.answer) c.lock.ensures.after
+    c.in_ok-done.ensures.says c.in-Some.is in
     let first = c.requires.first j.range c.in-Yes.offset (finds-look c.args.first c.in-Yes.offset c.args.pool.now j.range j.finds) in
     let over = ending-own c.args.reached c.args.first c.in-Yes.offset c.args.pool.now j.range j.finds first in
     let said = rw (c.destroy.ensures.after, c.in_ok-done.ensures.after, c.lock.ensures.after) at c.in-Value.ensures.answer in
     let both = said ∙ ap collect_says over in
     let is : c.in-Value.call ≡ finished c.args.reached j.range.value = cc in
-    rw c.into_told.ensures (says-over c.args.reached c.in-Yes.offset (look c.args.first c.args.pool.now) j.range c.in-Some.finished c.in-Value.call (finds-look c.args.first c.in-Yes.offset c.args.pool.now j.range j.finds) j.is is)
+    rw c.into_told.ensures (says-over c.args.reached c.in-Yes.offset (look c.args.first c.args.pool.now) j.range c.in-Some.finished c.in-Value.call
+    (finds-look c.args.first c.in-Yes.offset c.args.pool.now j.range j.finds) j.is is)
 
 pub returns-clause-after : goal.returns-clause-after
 returns-clause-after c =
-    let j = joins c.args.reached c.args.first c.in-Yes.offset c.args.pool.now c.lock.new.self c.in_ok-done.done c.in-Some.finished (sym c.in-Yes.ensures.answer) c.lock.ensures.after c.in_ok-done.ensures.says c.in-Some.is in
+    let j =
+    joins c.args.reached c.args.first c.in-Yes.offset c.args.pool.now c.lock.new.self c.in_ok-done.done c.in-Some.finished (sym c.in-Yes.ensures.answer) c.lock.ensures.after
+    c.in_ok-done.ensures.says c.in-Some.is in
     let first = c.requires.first j.range c.in-Yes.offset (finds-look c.args.first c.in-Yes.offset c.args.pool.now j.range j.finds) in
     let end = joins-over c.args.reached c.args.first c.in-Yes.offset c.args.pool.now c.in-Some.finished j (not-false _ c.if-not-finished.false) in
     rw (c.collect.ensures.after, c.destroy.ensures.after, c.in_ok-done.ensures.after, c.lock.ensures.after)
@@ -73,12 +85,15 @@ returns-clause-after c =
 
 pub returns-in_default-done-clause-acts : goal.returns-in_default-done-clause-acts
 returns-in_default-done-clause-acts c =
-    (rw (c.saturating_sub-own.ensures, c.from.ensures) at c.in_ok-done.ensures.acts) ∙ locked-acts (joined_by c.args.reached) c.args.first c.in-Yes.offset c.args.pool.now c.lock.new.self c.args.wires.now.items c.args.marks.now (sym c.in-Yes.ensures.answer) c.lock.ensures.after
+    (rw (c.saturating_sub-own.ensures, c.from.ensures) at c.in_ok-done.ensures.acts)
+    ∙ locked-acts (joined_by c.args.reached) c.args.first c.in-Yes.offset c.args.pool.now c.lock.new.self c.args.wires.now.items c.args.marks.now (sym c.in-Yes.ensures.answer) c.lock.ensures.after
 
 pub returns-then-not-finished-clause-acts : goal.returns-then-not-finished-clause-acts
 returns-then-not-finished-clause-acts c =
-    (rw (c.saturating_sub-own.ensures, c.from.ensures) at c.in_ok-done.ensures.acts) ∙ locked-acts (joined_by c.args.reached) c.args.first c.in-Yes.offset c.args.pool.now c.lock.new.self c.args.wires.now.items c.args.marks.now (sym c.in-Yes.ensures.answer) c.lock.ensures.after
+    (rw (c.saturating_sub-own.ensures, c.from.ensures) at c.in_ok-done.ensures.acts)
+    ∙ locked-acts (joined_by c.args.reached) c.args.first c.in-Yes.offset c.args.pool.now c.lock.new.self c.args.wires.now.items c.args.marks.now (sym c.in-Yes.ensures.answer) c.lock.ensures.after
 
 pub returns-clause-acts : goal.returns-clause-acts
 returns-clause-acts c =
-    (rw (c.saturating_sub-own.ensures, c.from.ensures) at c.in_ok-done.ensures.acts) ∙ locked-acts (joined_by c.args.reached) c.args.first c.in-Yes.offset c.args.pool.now c.lock.new.self c.args.wires.now.items c.args.marks.now (sym c.in-Yes.ensures.answer) c.lock.ensures.after
+    (rw (c.saturating_sub-own.ensures, c.from.ensures) at c.in_ok-done.ensures.acts)
+    ∙ locked-acts (joined_by c.args.reached) c.args.first c.in-Yes.offset c.args.pool.now c.lock.new.self c.args.wires.now.items c.args.marks.now (sym c.in-Yes.ensures.answer) c.lock.ensures.after

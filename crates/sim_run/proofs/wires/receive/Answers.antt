@@ -7,4 +7,6 @@ use Rattle.sim_run.proofs.wires.receive.Goals as goal
 
 pub returns-clause-wire : goal.returns-clause-wire
 returns-clause-wire c =
-    on_ok _ _ c.receive.result (λ e. ap (slice_set c.args.wires.now.items c.args.server) e ∙ set-on_wire c.args.wires.now.items c.args.server (received (record { id = c.args.id; code = c.args.code; text = c.args.text.now })) c.index_mut.result.now c.requires.server c.index_mut.ensures.value) c.receive.ensures.wire
+    on_ok _ _ c.receive.result (λ e. ap (slice_set c.args.wires.now.items c.args.server) e
+    ∙ set-on_wire c.args.wires.now.items c.args.server (received (record { id = c.args.id; code = c.args.code; text = c.args.text.now })) c.index_mut.result.now c.requires.server
+    c.index_mut.ensures.value) c.receive.ensures.wire

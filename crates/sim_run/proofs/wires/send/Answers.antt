@@ -11,4 +11,5 @@ returns-then-server-len c = past-on_wire c.args.wires.now.items c.args.server (s
 pub returns : goal.returns
 returns c =
     let f = sent c.args.id c.args.call c.args.payload in
-    on_ok _ _ c.send.result (λ e. ap (slice_set c.args.wires.now.items c.args.server) e ∙ set-on_wire c.args.wires.now.items c.args.server f c.index_mut.result.now (omega (arith, c.len.ensures, c.if-server-len.false, c.args.wires.now.ok.0)) c.index_mut.ensures.value) c.send.ensures
+    on_ok _ _ c.send.result (λ e. ap (slice_set c.args.wires.now.items c.args.server) e
+    ∙ set-on_wire c.args.wires.now.items c.args.server f c.index_mut.result.now (omega (arith, c.len.ensures, c.if-server-len.false, c.args.wires.now.ok.0)) c.index_mut.ensures.value) c.send.ensures

@@ -13,7 +13,9 @@ returns-in-Some-clause-served c =
     let chans = c.args.script.now.chans in
     let round = c.round_at-round.result in
     let same : round ≡ get_or c.args.self.now.rounds.items c.args.chan 0 = c.round_at-round.ensures ∙ ap (λ rs. get_or rs c.args.chan 0) c.as_slice.ensures.value in
-    let found = found-kept chans c.args.self.now c.place_of-place.result c.args.chan c.args.call round c.in-Some.shared.now c.requires.planned same (omega arith) (omega arith) c.place_of-place.ensures (rw c.as_slice-2.ensures.value at c.in-Some.ensures) in
+    let found =
+    found-kept chans c.args.self.now c.place_of-place.result c.args.chan c.args.call round c.in-Some.shared.now c.requires.planned same (omega arith) (omega arith) c.place_of-place.ensures
+    (rw c.as_slice-2.ensures.value at c.in-Some.ensures) in
     let is : plan chans c.args.chan c.args.call ≡ Some (arc_value c.in_ok-plan-2.plan) = found ∙ ap (λ p. Some p) (sym c.in_ok-plan-2.ensures.cases) in
     plan-served c.args.script.now.servers chans c.args.chan c.args.call (arc_value c.in_ok-plan-2.plan) c.requires.fits.channels is
 

@@ -28,7 +28,8 @@ aim-requires-clause-low c =
 
 pub aim-requires-clause-served : goal.aim-requires-clause-served
 aim-requires-clause-served c =
-    entry-of (IsServedIn c.args.script.now.servers) c.args.call (Some c.in-Some.ticket.now) c.args.self.now.calls.entries c.requires.ready.served (some_ticket _ c.in-Some.ticket.now (sym c.in-Some.ensures))
+    entry-of (IsServedIn c.args.script.now.servers) c.args.call (Some c.in-Some.ticket.now) c.args.self.now.calls.entries c.requires.ready.served
+    (some_ticket _ c.in-Some.ticket.now (sym c.in-Some.ensures))
 
 pub lose-requires-clause-few : goal.lose-requires-clause-few
 lose-requires-clause-few c =
@@ -40,8 +41,11 @@ returns-clause-ready c =
     let after = c.in_ok-lose.ensures.after in
     let acts = c.in_ok-lose.ensures.acts in
     let marks = ap (λ (p : List Link × List Mark). p.1) acts in
-    let b = attempt-brings c.args.script.now c.args.self.now c.forget.new.wires.items c.args.call c.in-Some.ticket.now c.args.node c.args.attempt c.in-Some-aim.aim.id what c.requires.ready c.requires.few c.requires.settled c.in-Some.ensures c.in-Some-aim.ensures.id in
-    let here : Brings c.args.self.now.pool c.lose.new.pool c.lose.new.marks c.args.self.now.calls.entries c.args.call (spec.event_after (what c.args.node c.args.attempt) c.args.self.now.reached) = rw (after, marks) b in
+    let b =
+    attempt-brings c.args.script.now c.args.self.now c.forget.new.wires.items c.args.call c.in-Some.ticket.now c.args.node c.args.attempt c.in-Some-aim.aim.id what c.requires.ready
+    c.requires.few c.requires.settled c.in-Some.ensures c.in-Some-aim.ensures.id in
+    let here : Brings c.args.self.now.pool c.lose.new.pool c.lose.new.marks c.args.self.now.calls.entries c.args.call (spec.event_after (what c.args.node c.args.attempt) c.args.self.now.reached) =
+    rw (after, marks) b in
     let new : Replay = record { reached = c.args.self.now.reached; calls = c.args.self.now.calls; pool = c.lose.new.pool; wires = c.lose.new.wires; marks = c.lose.new.marks } in
     let aimed : IsAimed c.args.self.now.calls.entries c.args.call c.in-Some-aim.aim.server c.in-Some-aim.aim.id = record {
       ticket = c.in-Some.ticket.now;
@@ -51,8 +55,12 @@ returns-clause-ready c =
       named = c.in-Some-aim.ensures.id;
       to = c.in-Some-aim.ensures.server;
     } in
-    let came : AreWired c.args.script.now.servers c.args.self.now.pool c.args.self.now.calls.entries c.forget.new.wires.items = rw c.forget.ensures (wired-in c.args.script.now.servers c.args.self.now.pool c.args.self.now.calls.entries c.args.self.now.wires.items (was_lost c.args.call c.in-Some-aim.aim.server c.in-Some-aim.aim.id) aimed (λ c. refl) c.requires.ready.wired) in
-    let left = attempt-wired c.args.script.now c.args.self.now c.forget.new.wires.items c.args.call c.in-Some.ticket.now c.args.node c.args.attempt c.in-Some-aim.aim.id what c.requires.ready c.requires.few c.requires.settled c.in-Some.ensures c.in-Some-aim.ensures.id came b.follows in
+    let came : AreWired c.args.script.now.servers c.args.self.now.pool c.args.self.now.calls.entries c.forget.new.wires.items =
+    rw c.forget.ensures (wired-in c.args.script.now.servers c.args.self.now.pool c.args.self.now.calls.entries c.args.self.now.wires.items
+    (was_lost c.args.call c.in-Some-aim.aim.server c.in-Some-aim.aim.id) aimed (λ c. refl) c.requires.ready.wired) in
+    let left =
+    attempt-wired c.args.script.now c.args.self.now c.forget.new.wires.items c.args.call c.in-Some.ticket.now c.args.node c.args.attempt c.in-Some-aim.aim.id what c.requires.ready
+    c.requires.few c.requires.settled c.in-Some.ensures c.in-Some-aim.ensures.id came b.follows in
     let wired : AreWired c.args.script.now.servers c.lose.new.pool c.args.self.now.calls.entries c.lose.new.wires.items = rw (after, ap (λ (p : List Link × List Mark). p.0) acts) left in
     ready-brings c.args.script.now c.args.self.now new c.args.call (spec.event_after (what c.args.node c.args.attempt) c.args.self.now.reached) c.requires.ready here refl wired
 
@@ -62,8 +70,11 @@ returns-clause-after c =
     let after = c.in_ok-lose.ensures.after in
     let acts = c.in_ok-lose.ensures.acts in
     let marks = ap (λ (p : List Link × List Mark). p.1) acts in
-    let b = attempt-brings c.args.script.now c.args.self.now c.forget.new.wires.items c.args.call c.in-Some.ticket.now c.args.node c.args.attempt c.in-Some-aim.aim.id what c.requires.ready c.requires.few c.requires.settled c.in-Some.ensures c.in-Some-aim.ensures.id in
-    let here : Brings c.args.self.now.pool c.lose.new.pool c.lose.new.marks c.args.self.now.calls.entries c.args.call (spec.event_after (what c.args.node c.args.attempt) c.args.self.now.reached) = rw (after, marks) b in
+    let b =
+    attempt-brings c.args.script.now c.args.self.now c.forget.new.wires.items c.args.call c.in-Some.ticket.now c.args.node c.args.attempt c.in-Some-aim.aim.id what c.requires.ready
+    c.requires.few c.requires.settled c.in-Some.ensures c.in-Some-aim.ensures.id in
+    let here : Brings c.args.self.now.pool c.lose.new.pool c.lose.new.marks c.args.self.now.calls.entries c.args.call (spec.event_after (what c.args.node c.args.attempt) c.args.self.now.reached) =
+    rw (after, marks) b in
     let new : Replay = record { reached = c.args.self.now.reached; calls = c.args.self.now.calls; pool = c.lose.new.pool; wires = c.lose.new.wires; marks = c.lose.new.marks } in
     event-replay c.args.self.now new c.args.call (what c.args.node c.args.attempt) here.follows refl refl
 
@@ -75,12 +86,14 @@ returns-in_default-aim-clause-wires c =
     let what : ℕ → ℕ → Event = λ n k. event.Lost n k c.args.code in
     let change : ℕ → Link → Link = lost in
     let is = c.in_ok-event.ensures.wires ∙ sym (ap (λ o. event_wires o (event.Lost c.args.node c.args.attempt c.args.code) c.args.self.now) c.in-Some.ensures) in
-    unaimed-wires change what c.args.self.now c.event.new.self.wires.items c.in-Some.ticket.now c.args.call c.args.node c.args.attempt is c.in_default-aim.ensures.none ∙ ap (λ o. loss_wires o c.args.call c.args.node c.args.attempt c.args.code c.args.self.now) c.in-Some.ensures
+    unaimed-wires change what c.args.self.now c.event.new.self.wires.items c.in-Some.ticket.now c.args.call c.args.node c.args.attempt is c.in_default-aim.ensures.none
+    ∙ ap (λ o. loss_wires o c.args.call c.args.node c.args.attempt c.args.code c.args.self.now) c.in-Some.ensures
 
 pub returns-clause-wires : goal.returns-clause-wires
 returns-clause-wires c =
     let what : ℕ → ℕ → Event = λ n k. event.Lost n k c.args.code in
     let change : ℕ → Link → Link = lost in
     let acts = c.in_ok-lose.ensures.acts in
-    aimed-wires change what c.args.self.now c.lose.new.wires.items c.forget.new.wires.items c.in-Some.ticket.now c.args.call c.args.node c.args.attempt c.in-Some-aim.aim.id c.in-Some-aim.aim.server (ap (λ (p : List Link × List Mark). p.0) acts) c.forget.ensures c.in-Some-aim.ensures.server c.in-Some-aim.ensures.id
+    aimed-wires change what c.args.self.now c.lose.new.wires.items c.forget.new.wires.items c.in-Some.ticket.now c.args.call c.args.node c.args.attempt c.in-Some-aim.aim.id
+    c.in-Some-aim.aim.server (ap (λ (p : List Link × List Mark). p.0) acts) c.forget.ensures c.in-Some-aim.ensures.server c.in-Some-aim.ensures.id
     ∙ ap (λ o. loss_wires o c.args.call c.args.node c.args.attempt c.args.code c.args.self.now) c.in-Some.ensures

@@ -28,7 +28,8 @@ aim-requires-clause-low c =
 
 pub aim-requires-clause-served : goal.aim-requires-clause-served
 aim-requires-clause-served c =
-    entry-of (IsServedIn c.args.script.now.servers) c.args.call (Some c.in-Some.ticket.now) c.args.self.now.calls.entries c.requires.ready.served (some_ticket _ c.in-Some.ticket.now (sym c.in-Some.ensures))
+    entry-of (IsServedIn c.args.script.now.servers) c.args.call (Some c.in-Some.ticket.now) c.args.self.now.calls.entries c.requires.ready.served
+    (some_ticket _ c.in-Some.ticket.now (sym c.in-Some.ensures))
 
 pub receive-requires-clause-server : goal.receive-requires-clause-server
 receive-requires-clause-server c =
@@ -49,8 +50,11 @@ returns-clause-ready c =
     let after = rw c.in_ok-reply.ensures.reply at c.in_ok-deliver.ensures.after in
     let acts = rw c.in_ok-reply.ensures.reply at c.in_ok-deliver.ensures.acts in
     let marks = ap (λ (p : List Link × List Mark). p.1) acts in
-    let b = attempt-brings c.args.script.now c.args.self.now c.receive.new.wires.items c.args.call c.in-Some.ticket.now c.args.node c.args.attempt c.in-Some-aim.aim.id what c.requires.ready c.requires.few c.requires.settled c.in-Some.ensures c.in-Some-aim.ensures.id in
-    let here : Brings c.args.self.now.pool c.deliver.new.pool c.deliver.new.marks c.args.self.now.calls.entries c.args.call (spec.event_after (what c.args.node c.args.attempt) c.args.self.now.reached) = rw (after, marks) b in
+    let b =
+    attempt-brings c.args.script.now c.args.self.now c.receive.new.wires.items c.args.call c.in-Some.ticket.now c.args.node c.args.attempt c.in-Some-aim.aim.id what c.requires.ready
+    c.requires.few c.requires.settled c.in-Some.ensures c.in-Some-aim.ensures.id in
+    let here : Brings c.args.self.now.pool c.deliver.new.pool c.deliver.new.marks c.args.self.now.calls.entries c.args.call
+    (spec.event_after (what c.args.node c.args.attempt) c.args.self.now.reached) = rw (after, marks) b in
     let new : Replay = record { reached = c.args.self.now.reached; calls = c.args.self.now.calls; pool = c.deliver.new.pool; wires = c.deliver.new.wires; marks = c.deliver.new.marks } in
     let aimed : IsAimed c.args.self.now.calls.entries c.args.call c.in-Some-aim.aim.server c.in-Some-aim.aim.id = record {
       ticket = c.in-Some.ticket.now;
@@ -60,8 +64,12 @@ returns-clause-ready c =
       named = c.in-Some-aim.ensures.id;
       to = c.in-Some-aim.ensures.server;
     } in
-    let came : AreWired c.args.script.now.servers c.args.self.now.pool c.args.self.now.calls.entries c.receive.new.wires.items = rw c.in_ok-reply.ensures.wire (wired-in c.args.script.now.servers c.args.self.now.pool c.args.self.now.calls.entries c.args.self.now.wires.items (came_in c.args.call c.in-Some-aim.aim.server (record { id = c.in-Some-aim.aim.id; code = c.args.code; text = c.args.text.now })) aimed (λ c. refl) c.requires.ready.wired) in
-    let left = attempt-wired c.args.script.now c.args.self.now c.receive.new.wires.items c.args.call c.in-Some.ticket.now c.args.node c.args.attempt c.in-Some-aim.aim.id what c.requires.ready c.requires.few c.requires.settled c.in-Some.ensures c.in-Some-aim.ensures.id came b.follows in
+    let came : AreWired c.args.script.now.servers c.args.self.now.pool c.args.self.now.calls.entries c.receive.new.wires.items =
+    rw c.in_ok-reply.ensures.wire (wired-in c.args.script.now.servers c.args.self.now.pool c.args.self.now.calls.entries c.args.self.now.wires.items
+    (came_in c.args.call c.in-Some-aim.aim.server (record { id = c.in-Some-aim.aim.id; code = c.args.code; text = c.args.text.now })) aimed (λ c. refl) c.requires.ready.wired) in
+    let left =
+    attempt-wired c.args.script.now c.args.self.now c.receive.new.wires.items c.args.call c.in-Some.ticket.now c.args.node c.args.attempt c.in-Some-aim.aim.id what c.requires.ready
+    c.requires.few c.requires.settled c.in-Some.ensures c.in-Some-aim.ensures.id came b.follows in
     let wired : AreWired c.args.script.now.servers c.deliver.new.pool c.args.self.now.calls.entries c.deliver.new.wires.items = rw (after, ap (λ (p : List Link × List Mark). p.0) acts) left in
     ready-brings c.args.script.now c.args.self.now new c.args.call (spec.event_after (what c.args.node c.args.attempt) c.args.self.now.reached) c.requires.ready here refl wired
 
@@ -71,8 +79,11 @@ returns-clause-after c =
     let after = rw c.in_ok-reply.ensures.reply at c.in_ok-deliver.ensures.after in
     let acts = rw c.in_ok-reply.ensures.reply at c.in_ok-deliver.ensures.acts in
     let marks = ap (λ (p : List Link × List Mark). p.1) acts in
-    let b = attempt-brings c.args.script.now c.args.self.now c.receive.new.wires.items c.args.call c.in-Some.ticket.now c.args.node c.args.attempt c.in-Some-aim.aim.id what c.requires.ready c.requires.few c.requires.settled c.in-Some.ensures c.in-Some-aim.ensures.id in
-    let here : Brings c.args.self.now.pool c.deliver.new.pool c.deliver.new.marks c.args.self.now.calls.entries c.args.call (spec.event_after (what c.args.node c.args.attempt) c.args.self.now.reached) = rw (after, marks) b in
+    let b =
+    attempt-brings c.args.script.now c.args.self.now c.receive.new.wires.items c.args.call c.in-Some.ticket.now c.args.node c.args.attempt c.in-Some-aim.aim.id what c.requires.ready
+    c.requires.few c.requires.settled c.in-Some.ensures c.in-Some-aim.ensures.id in
+    let here : Brings c.args.self.now.pool c.deliver.new.pool c.deliver.new.marks c.args.self.now.calls.entries c.args.call
+    (spec.event_after (what c.args.node c.args.attempt) c.args.self.now.reached) = rw (after, marks) b in
     let new : Replay = record { reached = c.args.self.now.reached; calls = c.args.self.now.calls; pool = c.deliver.new.pool; wires = c.deliver.new.wires; marks = c.deliver.new.marks } in
     event-replay c.args.self.now new c.args.call (what c.args.node c.args.attempt) here.follows refl refl
 
@@ -83,13 +94,17 @@ pub returns-in_default-aim-clause-wires : goal.returns-in_default-aim-clause-wir
 returns-in_default-aim-clause-wires c =
     let what : ℕ → ℕ → Event = λ n k. event.Reply n k c.args.code c.args.text.now in
     let change : ℕ → Link → Link = λ id. received (record { id = id; code = c.args.code; text = c.args.text.now }) in
-    let is = c.in_ok-event.ensures.wires ∙ ap (λ t. event_wires (ticket_of c.args.call c.args.self.now) (event.Reply c.args.node c.args.attempt c.args.code t) c.args.self.now) c.in_ok-text.ensures ∙ sym (ap (λ o. event_wires o (event.Reply c.args.node c.args.attempt c.args.code c.args.text.now) c.args.self.now) c.in-Some.ensures) in
-    unaimed-wires change what c.args.self.now c.event.new.self.wires.items c.in-Some.ticket.now c.args.call c.args.node c.args.attempt is c.in_default-aim.ensures.none ∙ ap (λ o. reply_wires o c.args.call c.args.node c.args.attempt c.args.code c.args.text.now c.args.self.now) c.in-Some.ensures
+    let is =
+    c.in_ok-event.ensures.wires ∙ ap (λ t. event_wires (ticket_of c.args.call c.args.self.now) (event.Reply c.args.node c.args.attempt c.args.code t) c.args.self.now) c.in_ok-text.ensures
+    ∙ sym (ap (λ o. event_wires o (event.Reply c.args.node c.args.attempt c.args.code c.args.text.now) c.args.self.now) c.in-Some.ensures) in
+    unaimed-wires change what c.args.self.now c.event.new.self.wires.items c.in-Some.ticket.now c.args.call c.args.node c.args.attempt is c.in_default-aim.ensures.none
+    ∙ ap (λ o. reply_wires o c.args.call c.args.node c.args.attempt c.args.code c.args.text.now c.args.self.now) c.in-Some.ensures
 
 pub returns-clause-wires : goal.returns-clause-wires
 returns-clause-wires c =
     let what : ℕ → ℕ → Event = λ n k. event.Reply n k c.args.code c.args.text.now in
     let change : ℕ → Link → Link = λ id. received (record { id = id; code = c.args.code; text = c.args.text.now }) in
     let acts = rw c.in_ok-reply.ensures.reply at c.in_ok-deliver.ensures.acts in
-    aimed-wires change what c.args.self.now c.deliver.new.wires.items c.receive.new.wires.items c.in-Some.ticket.now c.args.call c.args.node c.args.attempt c.in-Some-aim.aim.id c.in-Some-aim.aim.server (ap (λ (p : List Link × List Mark). p.0) acts) c.in_ok-reply.ensures.wire c.in-Some-aim.ensures.server c.in-Some-aim.ensures.id
+    aimed-wires change what c.args.self.now c.deliver.new.wires.items c.receive.new.wires.items c.in-Some.ticket.now c.args.call c.args.node c.args.attempt c.in-Some-aim.aim.id
+    c.in-Some-aim.aim.server (ap (λ (p : List Link × List Mark). p.0) acts) c.in_ok-reply.ensures.wire c.in-Some-aim.ensures.server c.in-Some-aim.ensures.id
     ∙ ap (λ o. reply_wires o c.args.call c.args.node c.args.attempt c.args.code c.args.text.now c.args.self.now) c.in-Some.ensures
