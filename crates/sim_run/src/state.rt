@@ -251,7 +251,7 @@ impl Replay {
         Ok(())
     }
 
-    /// An attempt of a call is lost: this is brought to the call by the id of the attempt alone.
+    /// An attempt of a call is lost: this is brought to the call by the id of the attempt alone, where it has one.
     fn lose(
         &mut self,
         script: &Script,
@@ -274,7 +274,6 @@ impl Replay {
             return Ok(());
         };
         let Some(aim) = ticket.aim(call, node, attempt, script.servers) else {
-            // It names no attempt of the call's plan, and so no id.
             let event = Event::Lost {
                 node,
                 attempt,
