@@ -4,6 +4,7 @@ mod Grown
 mod Holding
 mod Joined
 mod Keeping
+mod Lifted
 mod Loads
 mod Looks
 mod Noted

@@ -1,6 +1,7 @@
 pub mod Answers
 pub mod Claims
 pub mod Draining
+pub mod Lifted
 pub mod Opening
 pub mod Picking
 pub mod Posts

@@ -67,13 +67,21 @@ module _ {E : Type 0} where
   abbrev pub view_without_hold : View E → Claim → List E → View E
   view_without_hold v c log = view_unlocked (view_lifted v c.slot) c log
 
+  -- the view of a holder's pass that had its slot: the word showed that errors wait, and the pass took this chain and gave the slot back
+  abbrev pub view_with_chain : View E → Claim → ℕ → List Queued → View E
+  view_with_chain v c word qs = view_laid (view_with_list (taking_view (view_after_miss v c.slot word) c.slot qs) []) c.slot
+
   -- the view of a holder's pass whose word showed that errors wait, and which took this chain
   abbrev pub view_after_pending : View E → Claim → ℕ → List Queued → View E
-  view_after_pending v c word qs = view_laid (view_with_list (taking_view (view_after_miss (view_lifted v c.slot) c.slot word) c.slot qs) []) c.slot
+  view_after_pending v c word qs = view_with_chain (view_lifted v c.slot) c word qs
+
+  -- the view of a holder's pass that had its slot, and ended the range: its last log, the receipts that it leaves out, and the chain that it took
+  abbrev pub view_ended : View E → Claim → List E → List Receipt → List Queued → View E
+  view_ended v c log out qs = view_with_list (ending_view v c.slot c.first (c.first + c.size) log out qs) []
 
   -- the view whose Hold went and destroyed the range: its last log, the receipts that it leaves out, and the chain that it took
   abbrev pub view_after_destroy : View E → Claim → List E → List Receipt → List Queued → View E
-  view_after_destroy v c log out qs = view_with_list (ending_view (view_lifted v c.slot) c.slot c.first (c.first + c.size) log out qs) []
+  view_after_destroy v c log out qs = view_ended (view_lifted v c.slot) c log out qs
 
   -- the view of an Owner's pass that saw the ended word and took the last value
   abbrev pub view_with_value : View E → Claim → List E → View E

@@ -1,17 +1,19 @@
 //! Unlocking a range, destroying it, and collecting its last value.
-ghost use Rattle.std.specs.Prelude.{◌≡◌, ◌<◌, ◌≤◌, ◌+◌, ◌^◌, [], length, List};
+ghost use Rattle.std.specs.Prelude.{◌≡◌, ◌<◌, ◌≤◌, ◌+◌, ◌*◌, ◌^◌, [], length, vec_capacity, List};
 ghost use Rattle.id_rule.specs.declared.view.Receipt.{Receipt};
 ghost use Rattle.id_rule.specs.Accounts.{IsAccounted};
 ghost use Rattle.id_rule.specs.Words.{packed_word};
 ghost use Rattle.id_shared.specs.Answers.{HasGrown, HasLeftOut, IsCollected, IsDestroyed, IsUnlocked};
 ghost use Rattle.id_shared.specs.Claims.{KeepsCollected, KeepsErrors, KeepsHolding, KeepsOthers, KeepsOwners};
+ghost use Rattle.id_shared.specs.Lifted.{HasLifted, IsDestroyedFrom, IsGrownSince, IsLeftOutSince, IsUnlockedFrom};
 ghost use Rattle.id_shared.specs.Standing.{IsPassOf, HasErrorsOf, HasHold, HasOwner, first_id_of};
 
-use crate::answers::{CollectEnd, UnlockEnd};
+use crate::answers::{CollectEnd, Posted, UnlockEnd};
 use crate::claims::{Hold, Owner};
 use crate::ids::Ids;
 use crate::pass::Pass;
-use id_rule::{Empty, End, State, Take, Tenant, Unlock, pack};
+use atomic_table::Seat;
+use id_rule::{Empty, End, State, Take, Tenant, Unlock, View, pack};
 
 impl<T: Tenant> Ids<T> {
     /// Unlocks a range, and puts its value home. The value's first id has to be the range's. Its log has to begin with
@@ -36,7 +38,7 @@ impl<T: Tenant> Ids<T> {
         self.unlock_once(pass, hold, value)
     }
 
-    // Puts the value home, or takes the errors that wait.
+    // Takes the slot again, and unlocks it.
     fn unlock_once(&self, pass: &mut Pass<T>, hold: Hold, value: T) -> UnlockEnd<T>
         requires own { IsPassOf self.now pass.old }
         requires hold { HasHold pass.old hold }
@@ -46,22 +48,48 @@ impl<T: Tenant> Ids<T> {
         ensures own { IsPassOf self.now pass.new }
         ensures answer { IsUnlocked T.log T.receipt hold value pass.old result pass.new }
     {
+        let _ = &self.table;
         let slot = hold.slot;
-        self.put(&mut pass.seat, slot, value);
+        self.lift(&mut pass.seat, slot);
+        match self.unlock_from(&mut pass.seat, &mut pass.pending, hold, value) {
+            UnlockEnd::Unlocked => UnlockEnd::Unlocked,
+            UnlockEnd::Pending(hold, value, count) => {
+                pass.holder = Some(slot);
+                UnlockEnd::Pending(hold, value, count)
+            }
+        }
+    }
+
+    // The rest of `unlock`, after the load that took the slot again: puts the value home, or takes the errors that wait.
+    pub(crate) fn unlock_from(
+        &self,
+        seat: &mut Seat<Option<T>, View<T::Entry>>,
+        pending: &mut Vec<Posted>,
+        hold: Hold,
+        value: T,
+    ) -> UnlockEnd<T>
+        requires lifted { HasLifted self.now hold seat.old.table_id seat.old.me }
+        requires value { T.first_id value ≡ first_id_of hold }
+        requires log { IsGrownSince T.receipt seat.old.me.0 hold (T.log value) }
+        requires list { (pending.old.items ≡ []) × (self.now.sizes.passes * self.now.sizes.nodes ≤ vec_capacity pending.old) }
+        ensures same { (seat.new.table_id ≡ seat.old.table_id) × (seat.new.id ≡ seat.old.id) × (vec_capacity pending.new ≡ vec_capacity pending.old) }
+        ensures answer { IsUnlockedFrom T.log T.receipt hold value seat.old.me result seat.new.me pending.new.items }
+    {
+        let slot = hold.slot;
+        self.put(seat, slot, value);
         let old = pack(hold.first, hold.size, State::Locked, 0);
         let new = pack(hold.first, hold.size, State::Free, 0);
         let found = self
             .table
             .shared
-            .compare_exchange::<Unlock>(&mut pass.seat, slot as usize, old, new);
+            .compare_exchange::<Unlock>(seat, slot as usize, old, new);
         if found == old {
             hold.spend();
             return UnlockEnd::Unlocked;
         }
-        self.take(&mut pass.seat, &mut pass.pending, &hold);
-        let value = self.take_out(&mut pass.seat, slot);
-        pass.holder = Some(slot);
-        let count = pass.pending.len() as u32;
+        self.take(seat, pending, &hold);
+        let value = self.take_out(seat, slot);
+        let count = pending.len() as u32;
         UnlockEnd::Pending(hold, value, count)
     }
 
@@ -86,7 +114,7 @@ impl<T: Tenant> Ids<T> {
         self.destroy_once(pass, hold, value)
     }
 
-    // Puts the value home, and takes the errors that wait.
+    // Takes the slot again, and ends its range.
     fn destroy_once(&self, pass: &mut Pass<T>, hold: Hold, value: T) -> u32
         requires own { IsPassOf self.now pass.old }
         requires hold { HasHold pass.old hold }
@@ -97,16 +125,36 @@ impl<T: Tenant> Ids<T> {
         ensures count { result ≡ length pass.new.scratch }
         ensures answer { IsDestroyed T.log T.receipt hold value pass.old pass.new }
     {
+        let _ = &self.table;
+        self.lift(&mut pass.seat, hold.slot);
+        self.destroy_from(&mut pass.seat, &mut pass.dropped, hold, value);
+        pass.holder = None;
+        (pass.pending.len() + pass.dropped.len()) as u32
+    }
+
+    // The rest of `destroy`, after the load that took the slot again: puts the value home, and takes the errors that wait.
+    pub(crate) fn destroy_from(
+        &self,
+        seat: &mut Seat<Option<T>, View<T::Entry>>,
+        dropped: &mut Vec<Posted>,
+        hold: Hold,
+        value: T,
+    )
+        requires lifted { HasLifted self.now hold seat.old.table_id seat.old.me }
+        requires value { T.first_id value ≡ first_id_of hold }
+        requires log { (out : List Receipt) × IsLeftOutSince T.receipt seat.old.me.0 hold (T.log value) out }
+        requires list { (dropped.old.items ≡ []) × (self.now.sizes.passes * self.now.sizes.nodes ≤ vec_capacity dropped.old) }
+        ensures same { (seat.new.table_id ≡ seat.old.table_id) × (seat.new.id ≡ seat.old.id) × (vec_capacity dropped.new ≡ vec_capacity dropped.old) }
+        ensures answer { IsDestroyedFrom T.log T.receipt hold value seat.old.me seat.new.me dropped.new.items }
+    {
         let Hold { slot, first, size } = hold;
-        self.put(&mut pass.seat, slot, value);
+        self.put(seat, slot, value);
         let new = pack(first, size, State::Ended, 0);
         let taken = self
             .table
             .shared
-            .swap::<End>(&mut pass.seat, slot as usize, new);
-        self.drain(&mut pass.seat, &mut pass.dropped, (taken % 65536) as u32);
-        pass.holder = None;
-        (pass.pending.len() + pass.dropped.len()) as u32
+            .swap::<End>(seat, slot as usize, new);
+        self.drain(seat, dropped, (taken % 65536) as u32);
     }
 
     /// Collects the value that the end of the range left. The slot is then vacant for the next range, or retired where

@@ -114,16 +114,25 @@ impl<T: Tenant> Ids<T> {
         self.lock_from(pass, slot, word)
     }
 
-    // Takes a held slot again, and puts a value into it.
-    pub(crate) fn put(&self, seat: &mut Seat<Option<T>, View<T::Entry>>, slot: u32, value: T)
+    // Takes a held slot again, which is empty.
+    pub(crate) fn lift(&self, seat: &mut Seat<Option<T>, View<T::Entry>>, slot: u32)
         requires table { seat.old.table_id ≡ self.now.table }
         requires slot { slot < seat.old.table_id.slots }
         requires hold { (f r : ℕ) × ((part_of seat.old.me.0 slot).hold ≡ Some (f, r)) }
         requires home { (t : Turn T.Entry) → (part_of seat.old.me.0 slot).turn ≡ Some t → t.out ≡ false }
         ensures same { (seat.new.table_id ≡ seat.old.table_id) × (seat.new.id ≡ seat.old.id) }
-        ensures me { seat.new.me ≡ (view_lifted seat.old.me.0 slot, (slot, Some value) ∷ seat.old.me.1) }
+        ensures me { seat.new.me ≡ (view_lifted seat.old.me.0 slot, (slot, None) ∷ seat.old.me.1) }
     {
         self.table.shared.load::<Lift>(seat, slot as usize);
+    }
+
+    // Puts a value into the empty slot that the seat took last.
+    pub(crate) fn put(&self, seat: &mut Seat<Option<T>, View<T::Entry>>, slot: u32, value: T)
+        requires table { seat.old.table_id ≡ self.now.table }
+        requires empty { seat.old.me.1 ≡ (slot, None) ∷ rest seat.old.me.1 }
+        ensures same { (seat.new.table_id ≡ seat.old.table_id) × (seat.new.id ≡ seat.old.id) }
+        ensures me { seat.new.me ≡ (seat.old.me.0, (slot, Some value) ∷ rest seat.old.me.1) }
+    {
         match self.table.shared.exchange(seat, slot as usize, Some(value)) {
             None => {}
             Some(_) => unreachable!(),
