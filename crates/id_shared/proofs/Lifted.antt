@@ -1,9 +1,9 @@
 -- A seat that took its Hold's slot again, and what the second halves of `unlock` and `destroy` leave.
-use Rattle.std.proofs.Common.{◌≡◌, ℕ, ◌+◌, ◌<◌, true, List, [], ◌∷◌, ◌++◌, refl, ap, ◌∙◌, Option, Some}
+use Rattle.std.proofs.Common.{◌≡◌, ℕ, ◌+◌, ◌<◌, false, List, [], ◌∷◌, ◌++◌, refl, sym, ap, ◌∙◌, subst, Option, Some, None}
 use Rattle.std.specs.Prelude.{reverse}
 use Rattle.atomic_table.specs.Seated.{TableId}
 use Rattle.atomic_table.specs.Table.{Me}
-use Rattle.id_rule.specs.Changes.{part_with_end, part_with_got, part_with_miss, part_without_hold, taking_view, turn_with_waits, view_after_miss, view_with_list}
+use Rattle.id_rule.specs.Changes.{part_with_end, part_without_hold}
 use Rattle.id_rule.specs.declared.view.Part.{Part}
 use Rattle.id_rule.specs.declared.view.Queued.{Queued}
 use Rattle.id_rule.specs.declared.view.Receipt.{Receipt}
@@ -15,30 +15,35 @@ use Rattle.id_rule.specs.Steps.{IsChainOf}
 use Rattle.id_shared.specs.declared.answers.Posted.{Posted}
 use Rattle.id_shared.specs.declared.answers.UnlockEnd.{UnlockEnd}
 use Rattle.id_shared.specs.declared.answers.UnlockEnd.TheVariants as unlock
-use Rattle.id_shared.specs.Lifted.{IsDestroyedFrom, IsUnlockedFrom}
-use Rattle.id_shared.specs.Standing.{Claim}
+use Rattle.id_shared.specs.Lifted.{HasLifted, IsDestroyedFrom, IsUnlockedFrom}
+use Rattle.id_shared.specs.Standing.{Claim, IdTable, Standing, HasHold, IsPassOf}
 use Rattle.id_shared.specs.Steady.{IsSteady, Rooms}
 use Rattle.id_shared.specs.Views.{view_after_destroy, view_after_pending, view_ended, view_lifted, view_unlocked, view_with_chain, view_without_hold}
-use Rattle.id_shared.proofs.Parts.{HasPart, destroyed_part, lifted_part, part_after_pending, part_on_top, part_put, part_then, pending_part, unheld_part}
-use Rattle.id_shared.proofs.Steady.{changed_part, steady_after}
+use Rattle.id_shared.proofs.Parts.{destroyed_part, lifted_part, part_after_pending, pending_part, unheld_part}
+use Rattle.id_shared.proofs.Steady.{changed_part, hold_is_low, steady_after, turn_is_home}
 use Rattle.id_shared.proofs.Taken.{chain_outside, laid_again, lifted_turn}
 
-module _ {E : Type 0} where
-  -- the part of a holder whose word showed that errors wait
-  pub miss_part : (v : View E) (slot word : ℕ) → HasPart slot v (part_with_miss (part_of v slot) word) (view_after_miss v slot word)
-  miss_part v slot word = part_put slot v (v.seen ++ (slot, word) ∷ []) (part_with_miss (part_of v slot) word)
+module _ {T E : Type 0} (p : Standing E) (c k : Claim) (slots number sent : ℕ) (room : Rooms) (me : Me (Option T) (View E)) (claim : k ≡ c) (view : me.0 ≡ p.view) (hold : HasHold p c)
+    (st : IsSteady slots me number sent room) where
+  -- the Hold, as the pass has it inside: it is of a slot of the table, and the slot isn't out
+  pub held_inside : (k.slot < slots) × ((part_of me.0 k.slot).hold ≡ Some (k.first, k.size)) × ((t : Turn E) → (part_of me.0 k.slot).turn ≡ Some t → t.out ≡ false)
+  held_inside =
+      let has : (part_of me.0 k.slot).hold ≡ Some (k.first, k.size) = subst (λ (z : Claim × View E). (part_of z.1 z.0.slot).hold ≡ Some (z.0.first, z.0.size)) (λ y. (sym claim y, sym view y)) hold in
+      (hold_is_low slots number sent k.slot room me st (k.first, k.size) has, has, λ t is. (turn_is_home slots number sent k.slot room me st t is).0)
 
-  -- the same, which then took this chain
-  pub chain_part : (v : View E) (slot word : ℕ) (qs : List Queued)
-      → HasPart slot v (part_with_got (part_with_miss (part_of v slot) word) ((part_of v slot).got ++ reverse (receipts_of qs))) (view_with_list (taking_view (view_after_miss v slot word) slot qs) [])
-  chain_part v slot word qs = let w = view_after_miss v slot word in
-      part_then slot v w (view_with_list (taking_view w slot qs) []) (part_with_miss (part_of v slot) word) (λ p. part_with_got p (p.got ++ reverse (receipts_of qs)))
-      (miss_part v slot word)
-      (part_on_top slot w (view_with_list (taking_view w slot qs) []) (part_with_got (part_of w slot) ((part_of w slot).got ++ reverse (receipts_of qs))) refl)
-
-  -- a lock of which an error was seen to wait has the same log
-  pub waits_turn : (o : Option (Turn E)) (t : Turn E) → o ≡ Some t → (u : Turn E) × (turn_with_waits true o ≡ Some u) × (u.log ≡ t.log)
-  waits_turn o t is = (record t { waits = true }, ap (turn_with_waits true) is, refl)
+-- the seat after the load that took the Hold's slot again
+pub has_lifted : {T E : Type 0} (ids : IdTable) (p : Standing E) (c k : Claim) (t t' : TableId) (number sent : ℕ) (room : Rooms) (me m : Me (Option T) (View E)) → k ≡ c → me.0 ≡ p.view
+    → t ≡ p.table → IsPassOf ids p → HasHold p c → IsSteady t.slots me number sent room → t' ≡ t → m ≡ (view_lifted me.0 k.slot, (k.slot, None) ∷ me.1) → HasLifted ids c t' m
+has_lifted {T} {E} ids p c k t t' number sent room me m claim view table own hold st same is =
+    let held = held_inside p c k t.slots number sent room me claim view hold st in
+    let lifted = ap (λ z. part_of z.0 k.slot) is ∙ (lifted_part me.0 k.slot).here in
+    subst (λ (z : Claim). HasLifted ids z t' m) claim record {
+      seat = record { of_table = same ∙ table ∙ own.0; width = ap (λ z. z.0.width) is ∙ ap (λ z. z.width) view ∙ own.1; total = ap (λ z. z.0.total) is ∙ ap (λ z. z.total) view ∙ own.2 };
+      slot = subst (λ (z : TableId). k.slot < z.slots) (sym same) held.0;
+      hold = ap (λ (z : Part E). z.hold) lifted ∙ held.1;
+      taken = ap (λ z. z.0.taken) is ∙ st.taken;
+      carried = ap (λ z. z.1) is ∙ ap (λ z. (k.slot, None) ∷ z) st.carried;
+    }
 
 module _ {E : Type 0} (rec : E → Option Receipt) where
   -- the chain, as the view before the slot went out has it

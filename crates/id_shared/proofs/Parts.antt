@@ -58,26 +58,25 @@ module _ {E : Type 0} where
   pub lifted_part : (v : View E) (slot : ℕ) → HasPart slot v (part_with_out (part_of v slot) true) (view_lifted v slot)
   lifted_part v slot = part_put slot v v.seen (part_with_out (part_of v slot) true)
 
-  -- the same, whose word then showed that errors wait
-  pub missed_part : (v : View E) (slot word : ℕ) → HasPart slot v (part_with_miss (part_with_out (part_of v slot) true) word) (view_after_miss (view_lifted v slot) slot word)
-  missed_part v slot word = let u = view_lifted v slot in
-      part_then slot v u (view_after_miss u slot word) (part_with_out (part_of v slot) true) (λ p. part_with_miss p word) (lifted_part v slot)
-      (part_put slot u (u.seen ++ (slot, word) ∷ []) (part_with_miss (part_of u slot) word))
+  -- the part of a holder whose word showed that errors wait
+  pub miss_part : (v : View E) (slot word : ℕ) → HasPart slot v (part_with_miss (part_of v slot) word) (view_after_miss v slot word)
+  miss_part v slot word = part_put slot v (v.seen ++ (slot, word) ∷ []) (part_with_miss (part_of v slot) word)
 
   -- the same, which then took this chain
-  pub taken_part : (v : View E) (slot word : ℕ) (qs : List Queued)
-      → HasPart slot v (part_with_got (part_with_miss (part_with_out (part_of v slot) true) word) ((part_of v slot).got ++ reverse (receipts_of qs)))
-      (view_with_list (taking_view (view_after_miss (view_lifted v slot) slot word) slot qs) [])
-  taken_part v slot word qs = let w = view_after_miss (view_lifted v slot) slot word in
-      part_then slot v w (view_with_list (taking_view w slot qs) []) (part_with_miss (part_with_out (part_of v slot) true) word) (λ p. part_with_got p (p.got ++ reverse (receipts_of qs)))
-      (missed_part v slot word)
+  pub chain_part : (v : View E) (slot word : ℕ) (qs : List Queued)
+      → HasPart slot v (part_with_got (part_with_miss (part_of v slot) word) ((part_of v slot).got ++ reverse (receipts_of qs))) (view_with_list (taking_view (view_after_miss v slot word) slot qs) [])
+  chain_part v slot word qs = let w = view_after_miss v slot word in
+      part_then slot v w (view_with_list (taking_view w slot qs) []) (part_with_miss (part_of v slot) word) (λ p. part_with_got p (p.got ++ reverse (receipts_of qs)))
+      (miss_part v slot word)
       (part_on_top slot w (view_with_list (taking_view w slot qs) []) (part_with_got (part_of w slot) ((part_of w slot).got ++ reverse (receipts_of qs))) refl)
 
   -- an unlock that found errors
   pub pending_part : (v : View E) (c : Claim) (word : ℕ) (qs : List Queued) → HasPart c.slot v (part_after_pending (part_of v c.slot) word qs) (view_after_pending v c word qs)
-  pending_part v c word qs = let x = view_with_list (taking_view (view_after_miss (view_lifted v c.slot) c.slot word) c.slot qs) [] in
+  pending_part v c word qs = let u = view_lifted v c.slot in let x = view_with_list (taking_view (view_after_miss u c.slot word) c.slot qs) [] in
       part_then c.slot v x (view_after_pending v c word qs) (part_with_got (part_with_miss (part_with_out (part_of v c.slot) true) word) ((part_of v c.slot).got ++ reverse (receipts_of qs)))
-      (λ p. part_with_out p false) (taken_part v c.slot word qs) (part_put c.slot x x.seen (part_with_out (part_of x c.slot) false))
+      (λ p. part_with_out p false)
+      (part_then c.slot v u x (part_with_out (part_of v c.slot) true) (λ p. part_with_got (part_with_miss p word) (p.got ++ reverse (receipts_of qs))) (lifted_part v c.slot) (chain_part u c.slot word qs))
+      (part_put c.slot x x.seen (part_with_out (part_of x c.slot) false))
 
   -- a destroy
   pub destroyed_part : (v : View E) (c : Claim) (log : List E) (out : List Receipt) (qs : List Queued)

@@ -70,12 +70,12 @@ module _ {E : Type 0} where
   laid_again (Some t) = (refl, refl)
 
   -- the lock as it is within the call has the same log
-  pub waiting_turn : (o : Option (Turn E)) (t : Turn E) → o ≡ Some t → (u : Turn E) × (turn_with_waits true (turn_with_out true o) ≡ Some u) × (u.log ≡ t.log)
-  waiting_turn o t is = (record t { out = true; waits = true }, ap (λ z. turn_with_waits true (turn_with_out true z)) is, refl)
-
-  -- the same, where no error was seen to wait
   pub lifted_turn : (o : Option (Turn E)) (t : Turn E) → o ≡ Some t → (u : Turn E) × (turn_with_out true o ≡ Some u) × (u.log ≡ t.log)
   lifted_turn o t is = (record t { out = true }, ap (turn_with_out true) is, refl)
+
+  -- a lock of which an error was seen to wait has the same log
+  pub waits_turn : (o : Option (Turn E)) (t : Turn E) → o ≡ Some t → (u : Turn E) × (turn_with_waits true o ≡ Some u) × (u.log ≡ t.log)
+  waits_turn o t is = (record t { waits = true }, ap (turn_with_waits true) is, refl)
 
   -- a lock of which an error was seen to wait
   pub seen_waiting : (o : Option (Turn E)) (t : Turn E) → turn_with_waits true o ≡ Some t → t.waits ≡ true

@@ -9,10 +9,9 @@ use Rattle.id_shared.specs.Standing.{Claim, Standing, HasHold}
 use Rattle.id_shared.specs.Steady.{IsSteady}
 use Rattle.id_shared.specs.Views.{view_lifted, view_ended, errors_of, receipts_in_errors}
 use Rattle.id_shared.proofs.Grown.{grown_inside, grown_outside}
-use Rattle.id_shared.proofs.Lifted.{chain_lifted, steady_destroyed}
+use Rattle.id_shared.proofs.Lifted.{chain_lifted, has_lifted, held_inside, steady_destroyed}
 use Rattle.id_shared.proofs.Parts.{lifted_part}
 use Rattle.id_shared.proofs.Scratch.{none_dropped}
-use Rattle.id_shared.proofs.Steady.{hold_is_low, turn_is_home}
 use Rattle.id_shared.proofs.Tables.{table_few}
 use Rattle.id_shared.proofs.Taken.{errors_long}
 use Rattle.id_shared.proofs.ids.Ids.destroy_once.Goals as goal
@@ -20,35 +19,23 @@ use Rattle.id_shared.proofs.ids.Ids.destroy_once.Goals as goal
 pub lift-requires : goal.lift-requires
 lift-requires g c =
     let s = c.pass.inside.seat in let k = c.hold.inside in
-    let has : (part_of s.me.0 k.slot).hold ≡ Some (k.first, k.size) = subst (λ (z : Claim × Standing g.row.T-Entry.Denot). HasHold z.1 z.0) (λ y. (sym c.hold.view_is y, sym c.pass.view_is y))
-    c.requires.hold in record {
+    let held = held_inside c.args.pass.now c.args.hold record { slot = k.slot; first = k.first; size = k.size } s.table_id.slots _ _ _ s.me c.hold.view_is (ap (λ z. z.view) c.pass.view_is)
+    c.requires.hold c.pass.invariant.0 in record {
       table = ap (λ z. z.table) c.pass.view_is ∙ c.requires.own.0;
-      slot = hold_is_low s.table_id.slots _ _ k.slot _ s.me c.pass.invariant.0 (k.first, k.size) has;
-      hold = (k.first, k.size, has);
-      home = λ t is. (turn_is_home s.table_id.slots _ _ k.slot _ s.me c.pass.invariant.0 t is).0;
+      slot = held.0;
+      hold = (k.first, k.size, held.1);
+      home = held.2;
     }
 
 pub destroy_from-requires : goal.destroy_from-requires
 destroy_from-requires g c =
     let s = c.pass.inside.seat in let k = c.hold.inside in
-    let has : (part_of s.me.0 k.slot).hold ≡ Some (k.first, k.size) = subst (λ (z : Claim × Standing g.row.T-Entry.Denot). HasHold z.1 z.0) (λ y. (sym c.hold.view_is y, sym c.pass.view_is y))
-    c.requires.hold in
-    let low = hold_is_low s.table_id.slots _ _ k.slot _ s.me c.pass.invariant.0 (k.first, k.size) has in
-    let me = c.lift.ensures.me in let same = c.lift.ensures.same.0 in let view = c.pass.view_is in
+    let me = c.lift.ensures.me in let view = c.pass.view_is in
     let lifted = ap (λ m. part_of m.0 k.slot) me ∙ (lifted_part s.me.0 k.slot).here in
     let all = ap (λ z. z.view.total) view ∙ c.requires.own.2 in let deep = c.pass.invariant.0.deeper in
     let left_out = c.requires.log.0 ++ receipts_in_errors c.args.pass.now.scratch in record {
-      lifted = subst (λ (z : Claim). HasLifted c.args.self.now z c.lift.new.seat.table_id c.lift.new.seat.me) c.hold.view_is record {
-        seat = record {
-          of_table = same ∙ ap (λ z. z.table) view ∙ c.requires.own.0;
-          width = ap (λ m. m.0.width) me ∙ ap (λ z. z.view.width) view ∙ c.requires.own.1;
-          total = ap (λ m. m.0.total) me ∙ all;
-        };
-        slot = subst (λ z. k.slot < z.slots) (sym same) low;
-        hold = ap (λ (z : Part g.row.T-Entry.Denot). z.hold) lifted ∙ has;
-        taken = ap (λ m. m.0.taken) me ∙ c.pass.invariant.0.taken;
-        carried = ap (λ m. m.1) me ∙ ap (λ z. (k.slot, None) ∷ z) c.pass.invariant.0.carried;
-      };
+      lifted = has_lifted c.args.self.now c.args.pass.now c.args.hold record { slot = k.slot; first = k.first; size = k.size } s.table_id c.lift.new.seat.table_id _ _ _ s.me c.lift.new.seat.me
+          c.hold.view_is (ap (λ z. z.view) view) (ap (λ z. z.table) view) c.requires.own c.requires.hold c.pass.invariant.0 c.lift.ensures.same.0 me;
       value = c.requires.value;
       log = (
         left_out,
@@ -73,9 +60,9 @@ overflow_cast-result g c = let answer = c.destroy_from.ensures.answer in let qs 
 pub invariant_of-pass : goal.invariant_of-pass
 invariant_of-pass g c =
     let s = c.pass.inside.seat in let k = c.hold.inside in let answer = c.destroy_from.ensures.answer in let qs = answer.2.0 in
-    let has : (part_of s.me.0 k.slot).hold ≡ Some (k.first, k.size) = subst (λ (z : Claim × Standing g.row.T-Entry.Denot). HasHold z.1 z.0) (λ y. (sym c.hold.view_is y, sym c.pass.view_is y))
-    c.requires.hold in
-    let low = subst (λ (z : Claim). z.slot < s.table_id.slots) c.hold.view_is (hold_is_low s.table_id.slots _ _ k.slot _ s.me c.pass.invariant.0 (k.first, k.size) has) in
+    let held = held_inside c.args.pass.now c.args.hold record { slot = k.slot; first = k.first; size = k.size } s.table_id.slots _ _ _ s.me c.hold.view_is (ap (λ z. z.view) c.pass.view_is)
+    c.requires.hold c.pass.invariant.0 in
+    let low = subst (λ (z : Claim). z.slot < s.table_id.slots) c.hold.view_is held.0 in
     let out = ap (λ m. m.0) c.lift.ensures.me ∙ ap (λ (z : Claim). view_lifted s.me.0 z.slot) c.hold.view_is in
     let few = subst (λ (z : ℕ). length qs ≤ z) (ap (λ m. m.0.total) c.lift.ensures.me ∙ ap (λ z. z.view.total) c.pass.view_is ∙ c.requires.own.2) answer.2.1.few in
     let most = table_few c.self.inside.table.shared.table_id c.self.inside.table.shared.key c.self.inside.sizes c.args.self.now c.self.view_is c.self.invariant in

@@ -13,9 +13,9 @@ use Rattle.id_shared.specs.declared.answers.Posted.{Posted}
 use Rattle.id_shared.specs.Lifted.{HasLifted, IsGrownSince}
 use Rattle.id_shared.specs.Standing.{Claim, first_id_of}
 use Rattle.id_shared.specs.Views.{errors_of, view_laid, view_with_chain}
-use Rattle.id_shared.proofs.Lifted.{miss_part, chain_part, waits_turn}
+use Rattle.id_shared.proofs.Parts.{miss_part, chain_part}
 use Rattle.id_shared.proofs.Tables.{at_seat, table_few}
-use Rattle.id_shared.proofs.Taken.{chain_outside, errors_long, seen_waiting}
+use Rattle.id_shared.proofs.Taken.{chain_outside, errors_long, seen_waiting, waits_turn}
 use Rattle.id_shared.proofs.ids.Ids.unlock_from.Goals as goal
 
 pub put-requires : goal.put-requires
