@@ -150,10 +150,7 @@ impl<T: Tenant> Ids<T> {
         let Hold { slot, first, size } = hold;
         self.put(seat, slot, value);
         let new = pack(first, size, State::Ended, 0);
-        let taken = self
-            .table
-            .shared
-            .swap::<End>(seat, slot as usize, new);
+        let taken = self.table.shared.swap::<End>(seat, slot as usize, new);
         self.drain(seat, dropped, (taken % 65536) as u32);
     }
 

@@ -27,6 +27,14 @@ pub use ids::Ids;
 pub use pass::Pass;
 
 #[cfg(test)]
+mod crowd_holding_tests;
+#[cfg(test)]
+mod crowd_posting_tests;
+#[cfg(test)]
+mod crowd_tests;
+#[cfg(test)]
+mod ending_race_tests;
+#[cfg(test)]
 mod meeting_tests;
 #[cfg(test)]
 mod post_race_tests;

@@ -77,7 +77,7 @@ fn tells_post_from(ids: &Ids<Book>, pass: &mut Pass<Book>, word: u64) -> Told
 }
 
 // Begins a range of three ids, which the pass holds.
-fn opens(
+pub(crate) fn opens(
     rt: &impl Abort,
     ids: &Ids<Book>,
     pass: &mut Pass<Book>,

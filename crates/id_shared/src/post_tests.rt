@@ -51,7 +51,7 @@ pub(crate) enum Told {
 
 /// The count of a `Pending`, and the last of its errors.
 #[derive(Clone, Copy, Debug, PartialEq, Eq)]
-struct Taken {
+pub(crate) struct Taken {
     count: u32,
     last: Option<Posted>,
 }
@@ -93,7 +93,7 @@ pub(crate) fn tells_post(ids: &Ids<Book>, pass: &mut Pass<Book>, id: u64, code: 
 }
 
 // Locks, and unlocks again.
-fn tells_lock(ids: &Ids<Book>, pass: &mut Pass<Book>, id: u64) -> Told
+pub(crate) fn tells_lock(ids: &Ids<Book>, pass: &mut Pass<Book>, id: u64) -> Told
     requires own { IsAtRest ids.now pass.old }
     ensures own { IsAtRest ids.now pass.new }
 {
@@ -135,7 +135,7 @@ fn notes(
 }
 
 // Tries to unlock, and notes the errors that came. Answers nothing where the range is unlocked.
-fn takes(
+pub(crate) fn takes(
     rt: &impl Abort,
     ids: &Ids<Book>,
     pass: &mut Pass<Book>,

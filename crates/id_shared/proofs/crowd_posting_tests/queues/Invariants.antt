@@ -1,0 +1,5 @@
+use Rattle.id_shared.specs.Standing.{IsAtRest}
+use Rattle.id_shared.proofs.crowd_posting_tests.queues.Given as goal
+
+abbrev pub invariant-loop : goal.invariant-loop
+invariant-loop g l = IsAtRest l.ids l.pass
