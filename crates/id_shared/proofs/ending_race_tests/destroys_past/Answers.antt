@@ -1,4 +1,4 @@
-use Rattle.std.proofs.Common.{◌<◌, ◌≤◌, ◌*◌, List, ℕ, length, ap, sym, subst, arith, ◌∙◌, Some, vec_capacity}
+use Rattle.std.proofs.Common.{◌<◌, ◌≤◌, List, ℕ, length, ap, sym, subst, arith, ◌∙◌, Some, vec_capacity}
 use Rattle.id_rule.specs.declared.view.Receipt.{Receipt}
 use Rattle.id_rule.specs.Parts.{part_of}
 use Rattle.id_rule.specs.Receipts.{IsGrownWithout}

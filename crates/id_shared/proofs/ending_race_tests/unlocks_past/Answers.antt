@@ -1,4 +1,4 @@
-use Rattle.std.proofs.Common.{◌≤◌, ◌*◌, ap, arith, ◌∙◌}
+use Rattle.std.proofs.Common.{ap, arith, ◌∙◌}
 use Rattle.id_shared.proofs.Lifted.{held_inside}
 use Rattle.id_shared.proofs.Scratch.{scratch_empty}
 use Rattle.id_shared.proofs.ending_race_tests.unlocks_past.Goals as goal

@@ -1,4 +1,4 @@
-use Rattle.std.proofs.Common.{List, [], ◌++◌, append_assoc, ap, sym, subst, ◌∙◌, Some}
+use Rattle.std.proofs.Common.{List, ◌++◌, append_assoc, ap, sym, subst, ◌∙◌, Some}
 use Rattle.id_rule.specs.declared.view.Receipt.{Receipt}
 use Rattle.id_shared.specs.Claims.{IsHoldingWith}
 use Rattle.id_shared.specs.Standing.{Claim, Standing}

@@ -1,11 +1,10 @@
-use Rattle.std.proofs.Common.{◌≡◌, ◌<◌, ◌≤◌, ◌++◌, ◌∷◌, length, sym, ap, subst, ◌∙◌, arith, append-nil, Some, None, vec_len, vec_capacity, List, ℕ}
+use Rattle.std.proofs.Common.{◌≡◌, ◌<◌, ◌≤◌, ◌++◌, length, sym, ap, subst, ◌∙◌, arith, append-nil, None, vec_len, vec_capacity, List, ℕ}
 use Rattle.std.specs.Prelude.{reverse}
-use Rattle.id_rule.specs.declared.view.Part.{Part}
 use Rattle.id_rule.specs.Parts.{part_of}
 use Rattle.id_rule.specs.Receipts.{IsGrownWithout}
 use Rattle.id_shared.specs.declared.answers.Posted.{Posted}
-use Rattle.id_shared.specs.Lifted.{HasLifted, IsLeftOutSince}
-use Rattle.id_shared.specs.Standing.{Claim, Standing, HasHold}
+use Rattle.id_shared.specs.Lifted.{IsLeftOutSince}
+use Rattle.id_shared.specs.Standing.{Claim}
 use Rattle.id_shared.specs.Steady.{IsSteady}
 use Rattle.id_shared.specs.Views.{view_lifted, view_ended, errors_of, receipts_in_errors}
 use Rattle.id_shared.proofs.Grown.{grown_inside, grown_outside}

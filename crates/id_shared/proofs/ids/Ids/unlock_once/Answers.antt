@@ -1,13 +1,12 @@
-use Rattle.std.proofs.Common.{◌≡◌, ◌<◌, ◌≤◌, ◌++◌, ◌∷◌, length, sym, ap, ap₂, subst, ◌∙◌, arith, append-nil, Some, None, vec_capacity, List, ℕ}
+use Rattle.std.proofs.Common.{◌<◌, ◌≤◌, ◌++◌, length, sym, ap, ap₂, subst, ◌∙◌, arith, append-nil, Some, vec_capacity, List, ℕ}
 use Rattle.std.specs.Prelude.{reverse}
 use Rattle.std.proofs.lemmas.List.{length-reverse}
-use Rattle.id_rule.specs.declared.view.Part.{Part}
 use Rattle.id_rule.specs.Parts.{part_of}
 use Rattle.id_rule.specs.Receipts.{IsGrown}
 use Rattle.id_shared.specs.declared.answers.Posted.{Posted}
 use Rattle.id_shared.specs.declared.answers.UnlockEnd.TheVariants as unlock
-use Rattle.id_shared.specs.Lifted.{HasLifted, IsGrownSince}
-use Rattle.id_shared.specs.Standing.{Claim, Standing, HasHold}
+use Rattle.id_shared.specs.Lifted.{IsGrownSince}
+use Rattle.id_shared.specs.Standing.{Claim}
 use Rattle.id_shared.specs.Steady.{IsSteady}
 use Rattle.id_shared.specs.Views.{view_lifted, view_unlocked, view_with_chain, errors_of}
 use Rattle.id_shared.proofs.Grown.{grown_inside}
