@@ -1,5 +1,6 @@
 -- What the words of a set tell of its numbers.
-use Rattle.std.proofs.Common.{◌≡◌, ◌≢◌, ℕ, zero, suc, ◌+◌, ◌*◌, ◌/◌, ◌%◌, ◌^◌, ◌<◌, ◌==◌, inl, inr, Bool, false, List, length, set, replicate, arith, refl, sym, ap, ◌∙◌, subst, get_or-set_other, get_or-set_same, length-set, eq-eqb}
+use Rattle.std.proofs.Common.{◌≡◌, ◌≢◌, ℕ, zero, suc, ◌+◌, ◌*◌, ◌/◌, ◌%◌, ◌^◌, ◌<◌, ◌==◌, inl, inr, Bool, false, List, length, set, replicate, arith, refl, sym, ap, ◌∙◌, subst}
+use Rattle.std.proofs.Common.{get_or-set_other, get_or-set_same, length-set, eq-eqb}
 use Rattle.std.proofs.lemmas.Bool.{cases_lt, cases_eq}
 use Rattle.std.proofs.lemmas.Bool.Decides.{nat_tests}
 use Rattle.std.proofs.lemmas.List.{get_or_past}
@@ -47,7 +48,8 @@ module _ (used : ℕ) (words : List ℕ) (u : AreUsed used words) (some : 0 < us
   first_word : (trailing_zeros w64 used < 64) × (bit_at used (trailing_zeros w64 used) ≡ 1) × ((i : ℕ) → i < trailing_zeros w64 used → bit_at used i ≡ 0)
   first_word = bit_at-trailing_zeros w64 used some u.small
 
-  first_bit : (trailing_zeros w64 (word_at words (trailing_zeros w64 used)) < 64) × (bit_at (word_at words (trailing_zeros w64 used)) (trailing_zeros w64 (word_at words (trailing_zeros w64 used))) ≡ 1)
+  first_bit : (trailing_zeros w64 (word_at words (trailing_zeros w64 used)) < 64) ×
+      (bit_at (word_at words (trailing_zeros w64 used)) (trailing_zeros w64 (word_at words (trailing_zeros w64 used))) ≡ 1)
       × ((i : ℕ) → i < trailing_zeros w64 (word_at words (trailing_zeros w64 used)) → bit_at (word_at words (trailing_zeros w64 used)) i ≡ 0)
   first_bit = bit_at-trailing_zeros w64 (word_at words (trailing_zeros w64 used)) (u.some (trailing_zeros w64 used) first_word.0 first_word.1) (u.fit (trailing_zeros w64 used))
 
@@ -109,7 +111,8 @@ module _ (words : List ℕ) (number x : ℕ) (c : length words ≡ 64) (l : numb
   bit_there others k n = elim (cases_eq (k / 64) (number / 64)) [
     | inl e ↦
         let apart : k % 64 ≢ number % 64 = λ s. n (omega (arith, e, s)) in
-        ap (λ w. bit_at (word_at (set words (number / 64) x) w) (k % 64) == 1) e ∙ ap (λ m. bit_at m (k % 64) == 1) here ∙ ap (λ m. m == 1) (others (k % 64) (omega arith) apart) ∙ ap (λ w. bit_at (word_at words w) (k % 64) == 1) (sym e)
+        ap (λ w. bit_at (word_at (set words (number / 64) x) w) (k % 64) == 1) e ∙ ap (λ m. bit_at m (k % 64) == 1) here ∙ ap (λ m. m == 1) (others (k % 64) (omega arith) apart)
+        ∙ ap (λ w. bit_at (word_at words w) (k % 64) == 1) (sym e)
     | inr d ↦ ap (λ m. bit_at m (k % 64) == 1) (get_or-set_other words (number / 64) (k / 64) x 0 d)
   ]
 

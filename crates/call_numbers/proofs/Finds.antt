@@ -1,5 +1,6 @@
 -- What is found after one more number.
-use Rattle.std.proofs.Common.{◌≡◌, ℕ, ◌-◌, ◌≤◌, zero, suc, nat_eq, Bool, true, false, cond, ◌||◌, List, [], ◌∷◌, ◌++◌, length, length-append, position, Some, None, arith, ap, sym, ◌∙◌, refl, nat_cmp, inl, inr, ◌⊎◌}
+use Rattle.std.proofs.Common.{◌≡◌, ℕ, ◌-◌, ◌≤◌, zero, suc, nat_eq, Bool, true, false, cond, ◌||◌, List, [], ◌∷◌, ◌++◌, length, length-append, position, Some, None, arith, ap, sym, ◌∙◌, refl}
+use Rattle.std.proofs.Common.{nat_cmp, inl, inr, ◌⊎◌}
 use Rattle.std.specs.List.{IsDistinct, list_any, position_or_len}
 use Rattle.std.specs.Cmp.{unsigned_ties, nat_eq_equiv}
 use Rattle.std.specs.Map.{lookup}
@@ -103,7 +104,8 @@ once-more : (xs : List ℕ) (x : ℕ) → position (nat_eq x) xs ≡ None → Is
 once-more xs x none once = IsDistinct-push nat_eq_equiv xs x once (none-passes (nat_eq x) xs (position_none (nat_eq x) xs none))
 
 -- All are found after one more, if it is and the others are found as before.
-more : (old new : BTreeMap ℕ ℕ) (xs : List ℕ) (x : ℕ) → AreFound old xs → position (nat_eq x) xs ≡ None → ((y : ℕ) → nat_eq y x ≡ false → get nat_cmp new y ≡ get nat_cmp old y) → found new (xs ++ x ∷ []) x ≡ Some (length xs) → AreFound new (xs ++ x ∷ [])
+more : (old new : BTreeMap ℕ ℕ) (xs : List ℕ) (x : ℕ) → AreFound old xs → position (nat_eq x) xs ≡ None → ((y : ℕ) → nat_eq y x ≡ false → get nat_cmp new y ≡ get nat_cmp old y)
+    → found new (xs ++ x ∷ []) x ≡ Some (length xs) → AreFound new (xs ++ x ∷ [])
 more old new xs x h none others here = record { finds = λ y. at y (cases_Bool (nat_eq y x)); once = once-more xs x none h.once }
   where
     at : (y : ℕ) → ((nat_eq y x ≡ true) ⊎ (nat_eq y x ≡ false)) → found new (xs ++ x ∷ []) y ≡ position (nat_eq y) (xs ++ x ∷ [])
@@ -120,7 +122,8 @@ pub one_follows : (places : BTreeMap ℕ ℕ) (xs : List ℕ) (x : ℕ) → AreF
 one_follows places xs x h none here = more places places xs x h none (λ y differs. refl) (new-follows places xs x here)
 
 -- One more that doesn't, and goes into the tree.
-pub one_placed : (old new : BTreeMap ℕ ℕ) (xs : List ℕ) (x : ℕ) → AreFound old xs → position (nat_eq x) xs ≡ None → follows xs x ≡ false → Updates nat_cmp old new x (Some (length xs)) → AreFound new (xs ++ x ∷ [])
+pub one_placed : (old new : BTreeMap ℕ ℕ) (xs : List ℕ) (x : ℕ) → AreFound old xs → position (nat_eq x) xs ≡ None → follows xs x ≡ false → Updates nat_cmp old new x (Some (length xs))
+    → AreFound new (xs ++ x ∷ [])
 one_placed old new xs x h none other updates =
     more old new xs x h none (λ y differs. looked y ∙ ap (λ b. cond b (Some (length xs)) (get nat_cmp old y)) (turned x y differs))
     (new-placed old new xs x other (h.finds x ∙ none) (looked x ∙ ap (λ b. cond b (Some (length xs)) (get nat_cmp old x)) (same-eq x x refl)))

@@ -145,7 +145,13 @@ more-servers servers more first (c ∷ chans) le h = (one c h.0, more-servers se
   where
     one : (c : Chan MapKind MergeKind) → IsChan servers first c → IsChan more first c
     one (chan.Leaf leaf) l =
-        record { few_retries = l.few_retries; backup = l.backup; timeout = l.timeout; some_server = l.some_server; known_servers = λ k d less. (let below = l.known_servers k d less in omega (arith, le, below)) }
+        record {
+          few_retries = l.few_retries;
+          backup = l.backup;
+          timeout = l.timeout;
+          some_server = l.some_server;
+          known_servers = λ k d less. (let below = l.known_servers k d less in omega (arith, le, below));
+        }
     one (chan.Par par) p = p
     one (chan.Sel sel) p = p
     one (chan.Part part) p = record {

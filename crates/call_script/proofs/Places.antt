@@ -66,7 +66,8 @@ place_is calls number =
     ∙ ap (λ n. cond (nat_lt (position_or_len (λ c. c.0 == number) calls) n) (Some (position_or_len (λ c. c.0 == number) calls)) None) (length-map calls (λ c. c.0))
 
 -- A number of no call is none of the numbers.
-pub new_number : (numbers : List ℕ) (calls : List (ℕ × ℕ)) (number : ℕ) → AreNumbers numbers calls → option_map (λ c. c.1) (find (λ c. c.0 == number) calls) ≡ None → position (nat_eq number) numbers ≡ None
+pub new_number : (numbers : List ℕ) (calls : List (ℕ × ℕ)) (number : ℕ) → AreNumbers numbers calls → option_map (λ c. c.1) (find (λ c. c.0 == number) calls) ≡ None
+    → position (nat_eq number) numbers ≡ None
 new_number numbers calls number are none = ap (position (nat_eq number)) are ∙ place_is calls number ∙ no_call calls number none
 
 -- The place that the numbers give is that of the call.

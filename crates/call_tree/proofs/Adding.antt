@@ -71,16 +71,21 @@ module _ {M G : Type 0} where
 
   firsts-push : (at : ℕ) (ss : List (State M G)) (s : State M G) → firsts at (states_of (ss ++ s ∷ [])) ≡ firsts at (states_of ss) ++ (at + size_of (states_of ss)) ∷ []
   firsts-push at [] s = let same : at ≡ at + 0 = omega arith in ap (λ n. n ∷ []) same
-  firsts-push at (x ∷ ss) s = let same : at + size x + size_of (states_of ss) ≡ at + (size x + size_of (states_of ss)) = omega arith in ap (λ ns. at ∷ ns) (firsts-push (at + size x) ss s ∙ ap (λ n. firsts (at + size x) (states_of ss) ++ n ∷ []) same)
+  firsts-push at (x ∷ ss) s =
+      let same : at + size x + size_of (states_of ss) ≡ at + (size x + size_of (states_of ss)) = omega arith in ap (λ ns. at ∷ ns)
+      (firsts-push (at + size x) ss s ∙ ap (λ n. firsts (at + size x) (states_of ss) ++ n ∷ []) same)
 
-  pub places-push : (ss : List (State M G)) (s : State M G) (fs : List ℕ) (place : ℕ) → fs ≡ firsts 1 (states_of ss) → place ≡ 1 + size_of (states_of ss) → fs ++ place ∷ [] ≡ firsts 1 (states_of (ss ++ s ∷ []))
+  pub places-push : (ss : List (State M G)) (s : State M G) (fs : List ℕ) (place : ℕ) → fs ≡ firsts 1 (states_of ss) → place ≡ 1 + size_of (states_of ss)
+      → fs ++ place ∷ [] ≡ firsts 1 (states_of (ss ++ s ∷ []))
   places-push ss s fs place are at = ap (λ xs. xs ++ place ∷ []) are ∙ ap (λ n. firsts 1 (states_of ss) ++ n ∷ []) at ∙ sym (firsts-push 1 ss s)
 
   -- a sub without an end
-  pub added-open : (p now : ParNode M G) (s : State M G) (place : ℕ) → IsParNode p → now.counts ≡ p.counts → now.end ≡ p.end → now.firsts.items ≡ p.firsts.items ++ place ∷ [] → now.kids.items ≡ p.kids.items ++ s ∷ [] → place ≡ 1 + size_of (states_of p.kids.items) → end_of s ≡ None
+  pub added-open : (p now : ParNode M G) (s : State M G) (place : ℕ) → IsParNode p → now.counts ≡ p.counts → now.end ≡ p.end → now.firsts.items ≡ p.firsts.items ++ place ∷ []
+      → now.kids.items ≡ p.kids.items ++ s ∷ [] → place ≡ 1 + size_of (states_of p.kids.items) → end_of s ≡ None
       → IsParNode now
   added-open p now s place sound counts end fs ks at none =
-      let ends : ends_of (states_of now.kids.items) ≡ ends_of (states_of p.kids.items) ++ None ∷ [] = ap (λ ss. ends_of (states_of ss)) ks ∙ ends-push p.kids.items s ∙ ap (λ o. ends_of (states_of p.kids.items) ++ o ∷ []) none in
+      let ends : ends_of (states_of now.kids.items) ≡ ends_of (states_of p.kids.items) ++ None ∷ [] =
+      ap (λ ss. ends_of (states_of ss)) ks ∙ ends-push p.kids.items s ∙ ap (λ o. ends_of (states_of p.kids.items) ++ o ∷ []) none in
       record {
         open_ = subst (λ o. IsOpen now.counts o) (sym end) (subst (λ c. IsOpen c p.end) (sym counts) sound.open_);
         goods = ap (λ c. c.goods) counts ∙ sound.goods ∙ sym (ap goods ends ∙ goods-push (ends_of (states_of p.kids.items)) None);
@@ -88,14 +93,16 @@ module _ {M G : Type 0} where
         places = fs ∙ places-push p.kids.items s p.firsts.items place sound.places at ∙ ap (λ ss. firsts 1 (states_of ss)) (sym ks);
       }
 
-  ends-now : (kids ss : List (State M G)) (s : State M G) (at : ℕ) (end : End) → kids ≡ ss ++ s ∷ [] → at ≡ length ss → end_of s ≡ Some end → set (ends_of (states_of kids)) at (Some end) ≡ ends_of (states_of ss) ++ Some end ∷ []
+  ends-now : (kids ss : List (State M G)) (s : State M G) (at : ℕ) (end : End) → kids ≡ ss ++ s ∷ [] → at ≡ length ss → end_of s ≡ Some end
+      → set (ends_of (states_of kids)) at (Some end) ≡ ends_of (states_of ss) ++ Some end ∷ []
   ends-now kids ss s at end ks is some =
       ap (λ xs. set (ends_of (states_of xs)) at (Some end)) ks
       ∙ ap (λ es. set es at (Some end)) (ends-push ss s)
       ∙ ap (λ n. set (ends_of (states_of ss) ++ end_of s ∷ []) n (Some end)) (is ∙ sym (ends-length ss))
       ∙ last-set (ends_of (states_of ss)) (end_of s) (Some end)
 
-  pub counts-now : (p : ParNode M G) (kids : List (State M G)) (s : State M G) (at : ℕ) (end : End) (c : Counts) → IsParNode p → kids ≡ p.kids.items ++ s ∷ [] → at ≡ length p.kids.items → end_of s ≡ Some end → c ≡ with_end p.counts end
+  pub counts-now : (p : ParNode M G) (kids : List (State M G)) (s : State M G) (at : ℕ) (end : End) (c : Counts) → IsParNode p → kids ≡ p.kids.items ++ s ∷ [] → at ≡ length p.kids.items
+      → end_of s ≡ Some end → c ≡ with_end p.counts end
       → AreCounts c (set (ends_of (states_of kids)) at (Some end))
   counts-now p kids s at end c sound ks is some counts =
       let ends = ends-now kids p.kids.items s at end ks is some in
@@ -104,10 +111,12 @@ module _ {M G : Type 0} where
         bads_are = ap (λ x. x.bads) counts ∙ bad-with p.counts end ∙ ap (count_bad (Some end)) sound.bads ∙ sym (ap bads ends ∙ bads-push (ends_of (states_of p.kids.items)) (Some end));
       }
 
-  pub added-ended : (p now : ParNode M G) (s : State M G) (place : ℕ) (end : End) → IsParNode p → now.counts ≡ with_end p.counts end → IsOpen now.counts now.end → now.firsts.items ≡ p.firsts.items ++ place ∷ [] → now.kids.items ≡ p.kids.items ++ s ∷ []
+  pub added-ended : (p now : ParNode M G) (s : State M G) (place : ℕ) (end : End) → IsParNode p → now.counts ≡ with_end p.counts end → IsOpen now.counts now.end
+      → now.firsts.items ≡ p.firsts.items ++ place ∷ [] → now.kids.items ≡ p.kids.items ++ s ∷ []
       → place ≡ 1 + size_of (states_of p.kids.items) → end_of s ≡ Some end → IsParNode now
   added-ended p now s place end sound counts open_ fs ks at some =
-      let ends : ends_of (states_of now.kids.items) ≡ ends_of (states_of p.kids.items) ++ Some end ∷ [] = ap (λ ss. ends_of (states_of ss)) ks ∙ ends-push p.kids.items s ∙ ap (λ o. ends_of (states_of p.kids.items) ++ o ∷ []) some in
+      let ends : ends_of (states_of now.kids.items) ≡ ends_of (states_of p.kids.items) ++ Some end ∷ [] =
+      ap (λ ss. ends_of (states_of ss)) ks ∙ ends-push p.kids.items s ∙ ap (λ o. ends_of (states_of p.kids.items) ++ o ∷ []) some in
       record {
         open_ = open_;
         goods = ap (λ x. x.goods) counts ∙ good-with p.counts end ∙ ap (count_good (Some end)) sound.goods ∙ sym (ap goods ends ∙ goods-push (ends_of (states_of p.kids.items)) (Some end));
@@ -115,8 +124,10 @@ module _ {M G : Type 0} where
         places = fs ∙ places-push p.kids.items s p.firsts.items place sound.places at ∙ ap (λ ss. firsts 1 (states_of ss)) (sym ks);
       }
 
-  pub end-now : (kinds : Kinds M G) (p : ParNode M G) (kids : List (State M G)) (s : State M G) (at : ℕ) (end : End) (c : Counts) (merges : List G) (over : Option End) → p.end ≡ None → kids ≡ p.kids.items ++ s ∷ [] → at ≡ length p.kids.items → end_of s ≡ Some end → c ≡ with_end p.counts end → merges ≡ p.merges
-      → over ≡ judged kinds (limits_of c) merges (set (ends_of (states_of kids)) at (Some end)) → over ≡ end_with kinds p.end (limits_of p.counts) p.merges (ends_of (states_of p.kids.items)) (end_of s)
+  pub end-now : (kinds : Kinds M G) (p : ParNode M G) (kids : List (State M G)) (s : State M G) (at : ℕ) (end : End) (c : Counts) (merges : List G) (over : Option End) → p.end ≡ None
+      → kids ≡ p.kids.items ++ s ∷ [] → at ≡ length p.kids.items → end_of s ≡ Some end → c ≡ with_end p.counts end → merges ≡ p.merges
+      → over ≡ judged kinds (limits_of c) merges (set (ends_of (states_of kids)) at (Some end))
+      → over ≡ end_with kinds p.end (limits_of p.counts) p.merges (ends_of (states_of p.kids.items)) (end_of s)
   end-now kinds p kids s at end c merges over none ks is some counts same judgement =
       judgement
       ∙ ap (λ es. judged kinds (limits_of c) merges es) (ends-now kids p.kids.items s at end ks is some)

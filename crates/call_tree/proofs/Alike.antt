@@ -39,10 +39,12 @@ module _ {M G : Type 0} where
   alike-try r q states b c None h hs = record { states = ap (λ x. state_then x states) h; end = refl }
   alike-try r q states b c (Some end) h hs = alike-ended r q states b c (next_try (is_left states) end) h hs
 
-  par-is : (par : Par G) (o : Option End) (b c : Below M G) → AreAlike b c → (λ (x : Below M G). par_state (record par { end = x.end }) x.states) b ≡ (λ (x : Below M G). par_state (record par { end = x.end }) x.states) c
+  par-is : (par : Par G) (o : Option End) (b c : Below M G) → AreAlike b c
+      → (λ (x : Below M G). par_state (record par { end = x.end }) x.states) b ≡ (λ (x : Below M G). par_state (record par { end = x.end }) x.states) c
   par-is par o b c h = ap (λ e. par_state (record par { end = e }) b.states) h.end ∙ ap (par_state (record par { end = c.end })) h.states
 
-  sel-is : (sel : Sel) (b c : Below M G) → AreAlike b c → (λ (x : Below M G). sel_state (record sel { end = x.end }) x.states) b ≡ (λ (x : Below M G). sel_state (record sel { end = x.end }) x.states) c
+  sel-is : (sel : Sel) (b c : Below M G) → AreAlike b c
+      → (λ (x : Below M G). sel_state (record sel { end = x.end }) x.states) b ≡ (λ (x : Below M G). sel_state (record sel { end = x.end }) x.states) c
   sel-is sel b c h = ap (λ e. sel_state (record sel { end = e }) b.states) h.end ∙ ap (sel_state (record sel { end = c.end })) h.states
 
 module _ {M G : Type 0} (kinds : Kinds M G) where
@@ -52,9 +54,11 @@ module _ {M G : Type 0} (kinds : Kinds M G) where
   next-alike n plans call asked lim merges m ends s t b is h = subst (λ (x : State M G). AreAlike (start_subs kinds n plans call asked lim merges m (ends ++ end_of x ∷ [])) b) is h
 
   over-alike : (r q : Run M G) (plans : Plans M G) (b c : Below M G) (lim : Limits) (merges : List G) (ends : List (Option End)) → r.state ≡ q.state → AreAlike b c
-      → AreAlike (sub_started r plans b (where_ended (end_of r.state) (judged kinds lim merges (ends ++ end_of r.state ∷ [])))) (sub_started q plans c (where_ended (end_of q.state) (judged kinds lim merges (ends ++ end_of q.state ∷ []))))
+      → AreAlike (sub_started r plans b (where_ended (end_of r.state) (judged kinds lim merges (ends ++ end_of r.state ∷ []))))
+      (sub_started q plans c (where_ended (end_of q.state) (judged kinds lim merges (ends ++ end_of q.state ∷ []))))
   over-alike r q plans b c lim merges ends is h =
-      subst (λ (x : State M G). AreAlike (sub_started r plans b (where_ended (end_of r.state) (judged kinds lim merges (ends ++ end_of r.state ∷ [])))) (sub_started q plans c (where_ended (end_of x) (judged kinds lim merges (ends ++ end_of x ∷ []))))) is
+      subst (λ (x : State M G). AreAlike (sub_started r plans b (where_ended (end_of r.state) (judged kinds lim merges (ends ++ end_of r.state ∷ []))))
+      (sub_started q plans c (where_ended (end_of x) (judged kinds lim merges (ends ++ end_of x ∷ []))))) is
       (alike-sub r q plans b c (where_ended (end_of r.state) (judged kinds lim merges (ends ++ end_of r.state ∷ []))) is h)
 
   pub tried-alike : (r q : Run M G) (states : States M G) (b c : Below M G) → r.state ≡ q.state → AreAlike b c → AreAlike (try_run r states b (end_of r.state)) (try_run q states c (end_of q.state))
@@ -69,9 +73,11 @@ module _ {M G : Type 0} (kinds : Kinds M G) where
         par-is (record { limits = lim; merges = rule.merges; end = None }) None
         (par_started plans (start_subs kinds (n + 1) plans call asked lim rule.merges m []) (refused asked))
         (par_started plans (start_subs kinds (k + 1) plans other asked lim rule.merges w []) (refused asked))
-        (alike-par plans (start_subs kinds (n + 1) plans call asked lim rule.merges m []) (start_subs kinds (k + 1) plans other asked lim rule.merges w []) (refused asked) (subs-alike (n + 1) (k + 1) plans call other asked lim rule.merges m w []))
+        (alike-par plans (start_subs kinds (n + 1) plans call asked lim rule.merges m []) (start_subs kinds (k + 1) plans other asked lim rule.merges w []) (refused asked)
+        (subs-alike (n + 1) (k + 1) plans call other asked lim rule.merges m w []))
     start-alike n k (sel_plan timeout plans) call other request m w =
-        sel-is (record { request = request; end = None }) (start_tries kinds (n + 1) plans call request m) (start_tries kinds (k + 1) plans other request w) (tries-alike (n + 1) (k + 1) plans call other request m w)
+        sel-is (record { request = request; end = None }) (start_tries kinds (n + 1) plans call request m) (start_tries kinds (k + 1) plans other request w)
+        (tries-alike (n + 1) (k + 1) plans call other request m w)
 
     subs-alike : (n k : ℕ) (plans : Plans M G) (call other : ℕ) (asked : List Mapped) (lim : Limits) (merges : List G) (m w : ℕ) (ends : List (Option End))
         → AreAlike (start_subs kinds n plans call asked lim merges m ends) (start_subs kinds k plans other asked lim merges w ends)
@@ -82,12 +88,15 @@ module _ {M G : Type 0} (kinds : Kinds M G) where
         let is = start-alike n k plan call other request m w in
         let next = start_subs kinds (k + nodes plan) plans other asked lim merges w (ends ++ end_of q.state ∷ []) in
         over-alike r q plans (start_subs kinds (n + nodes plan) plans call asked lim merges m (ends ++ end_of r.state ∷ [])) next lim merges ends is
-        (next-alike (n + nodes plan) plans call asked lim merges m ends q.state r.state next (sym is) (subs-alike (n + nodes plan) (k + nodes plan) plans call other asked lim merges m w (ends ++ end_of q.state ∷ [])))
+        (next-alike (n + nodes plan) plans call asked lim merges m ends q.state r.state next (sym is)
+        (subs-alike (n + nodes plan) (k + nodes plan) plans call other asked lim merges m w (ends ++ end_of q.state ∷ [])))
     subs-alike n k (plan_then plan plans) call other (answer.Skip ∷ asked) lim merges m w ends =
-        alike-beside (waits plan) (start_subs kinds (n + nodes plan) plans call asked lim merges m (ends ++ None ∷ [])) (start_subs kinds (k + nodes plan) plans other asked lim merges w (ends ++ None ∷ []))
+        alike-beside (waits plan) (start_subs kinds (n + nodes plan) plans call asked lim merges m (ends ++ None ∷ []))
+        (start_subs kinds (k + nodes plan) plans other asked lim merges w (ends ++ None ∷ []))
         (subs-alike (n + nodes plan) (k + nodes plan) plans call other asked lim merges m w (ends ++ None ∷ []))
     subs-alike n k (plan_then plan plans) call other (answer.Bad ∷ asked) lim merges m w ends =
-        alike-beside (waits plan) (start_subs kinds (n + nodes plan) plans call asked lim merges m (ends ++ None ∷ [])) (start_subs kinds (k + nodes plan) plans other asked lim merges w (ends ++ None ∷ []))
+        alike-beside (waits plan) (start_subs kinds (n + nodes plan) plans call asked lim merges m (ends ++ None ∷ []))
+        (start_subs kinds (k + nodes plan) plans other asked lim merges w (ends ++ None ∷ []))
         (subs-alike (n + nodes plan) (k + nodes plan) plans call other asked lim merges m w (ends ++ None ∷ []))
     subs-alike n k (plan_then plan plans) call other [] lim merges m w ends =
         alike-beside (waits plan) (start_subs kinds (n + nodes plan) plans call [] lim merges m (ends ++ None ∷ [])) (start_subs kinds (k + nodes plan) plans other [] lim merges w (ends ++ None ∷ []))
@@ -100,7 +109,8 @@ module _ {M G : Type 0} (kinds : Kinds M G) where
         (start_tries kinds (n + nodes plan) plans call request m) (start_tries kinds (k + nodes plan) plans other request w)
         (start-alike n k plan call other request m w) (tries-alike (n + nodes plan) (k + nodes plan) plans call other request m w)
 
-  pub waiting-alike : (n k : ℕ) (states : States M G) (call other : ℕ) (request : List ℕ) (m w : ℕ) → AreAlike (start_waiting kinds n states call request m) (start_waiting kinds k states other request w)
+  pub waiting-alike : (n k : ℕ) (states : States M G) (call other : ℕ) (request : List ℕ) (m w : ℕ)
+      → AreAlike (start_waiting kinds n states call request m) (start_waiting kinds k states other request w)
   waiting-alike n k last_state call other request m w = record { states = refl; end = refl }
   waiting-alike n k (state_then (waits plan) states) call other request m w =
       tried-alike (start_at kinds n plan call request m) (start_at kinds k plan other request w) states

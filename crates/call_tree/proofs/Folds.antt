@@ -1,5 +1,6 @@
 -- One sub more in the merging of a parallel node.
-use Rattle.std.proofs.Common.{◌≡◌, ℕ, zero, suc, ◌+◌, ◌<◌, ◌≤◌, Bool, true, false, cond, ◌==◌, nat_lt, List, [], ◌∷◌, length, get_or, drop, set, Option, Some, None, unwrap_or, arith, refl, ap, sym, ◌∙◌, subst, add-one, slice_get}
+use Rattle.std.proofs.Common.{◌≡◌, ℕ, zero, suc, ◌+◌, ◌<◌, ◌≤◌, Bool, true, false, cond, ◌==◌, nat_lt, List, [], ◌∷◌, length, get_or, drop, set, Option, Some, None, unwrap_or, arith, refl}
+use Rattle.std.proofs.Common.{ap, sym, ◌∙◌, subst, add-one, slice_get}
 use Rattle.std.proofs.Math.Seq.{drop-cons}
 use Rattle.std.proofs.lemmas.Bool.Decides.{nat_tests}
 use Rattle.rpc_model.specs.declared.codes.TheConstants.{ETOOMANYFAILS, ERESPONSE}
@@ -58,7 +59,8 @@ turn-of : (next : Option (List ℕ) → ℕ → End) (fails limit : ℕ) (now : 
 turn-of next fails limit now v all h = record {
   fail_all = λ is. sym (ap (λ x. folded_pair next fails limit (now, x)) is) ∙ h;
   fail_last = λ is last. sym (ap (λ b. cond b (Bad ETOOMANYFAILS) (next now (fails + 1))) (same-number (fails + 1) limit last)) ∙ sym (ap (λ x. folded_pair next fails limit (now, x)) is) ∙ h;
-  fail_on = λ n same is differ. ap (next now) same ∙ sym (ap (λ b. cond b (Bad ETOOMANYFAILS) (next now (fails + 1))) (other-number (fails + 1) limit differ)) ∙ sym (ap (λ x. folded_pair next fails limit (now, x)) is) ∙ h;
+  fail_on = λ n same is differ. ap (next now) same ∙ sym (ap (λ b. cond b (Bad ETOOMANYFAILS) (next now (fails + 1))) (other-number (fails + 1) limit differ))
+      ∙ sym (ap (λ x. folded_pair next fails limit (now, x)) is) ∙ h;
   taken = λ n same is. ap (next now) same ∙ sym (ap (λ x. folded_pair next fails limit (now, x)) is) ∙ h;
 }
 
@@ -90,7 +92,8 @@ set-there (x ∷ es) (suc at) zero o differ = refl
 set-there (x ∷ es) (suc at) (suc i) o differ = set-there es at i o (λ e. differ (ap suc e))
 
 get-set : (es : List (Option End)) (at i : ℕ) (e : End) (b : Bool) → (i == at) ≡ b → i < length es → get_or (set es at (Some e)) i None ≡ or_end (cond b (Some e) None) (get_or es i None)
-get-set es at i e true test less = let same : i ≡ at = grind (arith, nat_tests) in subst (λ k. get_or (set es at (Some e)) k None ≡ Some e) (sym same) (set-here es at (Some e) (omega (arith, same, less)))
+get-set es at i e true test less =
+    let same : i ≡ at = grind (arith, nat_tests) in subst (λ k. get_or (set es at (Some e)) k None ≡ Some e) (sym same) (set-here es at (Some e) (omega (arith, same, less)))
 get-set es at i e false test less = set-there es at i (Some e) (λ same. let wrong : (i == at) ≡ true = grind (arith, nat_tests) in cc)
 
 no-choice : (b : Bool) → cond {A = Option End} b None None ≡ None
@@ -145,10 +148,12 @@ module _ {M G : Type 0} where
 
   module _ (answer_of : G → Option (List ℕ) → ℕ → List ℕ → Merged) where
     -- the next sub is merged
-    pub fold-turn : (merges : List G) (kids : List (State M G)) (at : ℕ) (last : Option End) (i limit : ℕ) (so_far : Option (List ℕ)) (fails : ℕ) (merge : G) (kid : State M G) → i < length kids → kid ≡ get_or kids i kid → slice_get merges i ≡ Some merge
+    pub fold-turn : (merges : List G) (kids : List (State M G)) (at : ℕ) (last : Option End) (i limit : ℕ) (so_far : Option (List ℕ)) (fails : ℕ) (merge : G) (kid : State M G)
+        → i < length kids → kid ≡ get_or kids i kid → slice_get merges i ≡ Some merge
         → let ends = with_last (ends_of (states_of kids)) at last in
         fold_from answer_of (parts_from i (drop i merges) (drop i ends)) limit so_far fails
-        ≡ folded_pair (fold_from answer_of (parts_from (i + 1) (drop (i + 1) merges) (drop (i + 1) ends)) limit) fails limit (merged_with answer_of merge so_far i (text_in (or_end (cond (i == at) last None) (end_of kid))))
+        ≡ folded_pair (fold_from answer_of (parts_from (i + 1) (drop (i + 1) merges) (drop (i + 1) ends)) limit) fails limit
+        (merged_with answer_of merge so_far i (text_in (or_end (cond (i == at) last None) (end_of kid))))
     fold-turn merges kids at last i limit so_far fails merge kid less is found =
         let add_one : i + 1 ≡ suc i = omega arith in
         let all = ends_of (states_of kids) in
@@ -171,8 +176,11 @@ module _ {M G : Type 0} where
         ap (λ es. fold_from answer_of (parts_from i (drop i merges) es) limit so_far fails) none ∙ no-ends answer_of i (drop i merges) limit so_far fails
 
     -- the same, by what the code found
-    pub fold-step : (merges : List G) (kids : List (State M G)) (at : ℕ) (last : Option End) (i index limit : ℕ) (so_far : Option (List ℕ)) (fails : ℕ) (found : Option G) (merge : G) (kid : State M G) (text now : Option (List ℕ)) (v : Verdict) (all : End) → i < length kids
-        → kid ≡ get_or kids i kid → index ≡ i → found ≡ Some merge → found ≡ slice_get merges index → text ≡ text_in (or_end (cond (index == at) last None) (end_of kid)) → (now, v) ≡ merged_with answer_of merge so_far index text
+    pub fold-step : (merges : List G) (kids : List (State M G)) (at : ℕ) (last : Option End) (i index limit : ℕ) (so_far : Option (List ℕ)) (fails : ℕ) (found : Option G) (merge : G)
+        (kid : State M G) (text now : Option (List ℕ)) (v : Verdict) (all : End)
+        → i < length kids
+        → kid ≡ get_or kids i kid → index ≡ i → found ≡ Some merge → found ≡ slice_get merges index → text ≡ text_in (or_end (cond (index == at) last None) (end_of kid))
+        → (now, v) ≡ merged_with answer_of merge so_far index text
         → let ends = with_last (ends_of (states_of kids)) at last in
         fold_from answer_of (parts_from i (drop i merges) (drop i ends)) limit so_far fails ≡ all
         → IsTurn (fold_from answer_of (parts_from (i + 1) (drop (i + 1) merges) (drop (i + 1) ends)) limit) fails limit now v all

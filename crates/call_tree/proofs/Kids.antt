@@ -52,7 +52,8 @@ module _ {M G : Type 0} where
   first-of [] h = absurd (omega (arith, h))
   first-of (s ∷ ss) h = (omega arith, refl)
 
-  pub at-last : (fs : List ℕ) (ss : List (State M G)) (node to at first : ℕ) → fs ≡ firsts 1 (states_of ss) → node < to → IsLastUpTo fs (to - node) at → first ≡ node + get_or fs at 0 → IsAt node to (states_of ss) at first
+  pub at-last : (fs : List ℕ) (ss : List (State M G)) (node to at first : ℕ) → fs ≡ firsts 1 (states_of ss) → node < to → IsLastUpTo fs (to - node) at → first ≡ node + get_or fs at 0
+      → IsAt node to (states_of ss) at first
   at-last fs ss node to at first are less last is =
       let l : IsLastUpTo (firsts 1 (states_of ss)) (to - node) at = subst (λ xs. IsLastUpTo xs (to - node) at) are last in
       let one = firsts-length 1 ss in
@@ -85,19 +86,23 @@ module _ {M G : Type 0} (kinds : Kinds M G) where
     pub high : to < first + size s
     pub within : first + size s ≤ at + size_of (states_of ss)
     pub steps : (call : ℕ) (e : Event) (moment : ℕ) → node_of e ≡ to → step_subs kinds at (states_of ss) call e moment ≡ with_run ss i s (step_at kinds first s call e moment)
-    pub brings : (call : ℕ) (e : Event) (moment : ℕ) → node_of e ≡ to → brought_subs kinds at (states_of ss) call e moment ≡ brought_at kinds first s call e moment ++ brought_by s (step_at kinds first s call e moment) ∷ []
+    pub brings : (call : ℕ) (e : Event) (moment : ℕ) → node_of e ≡ to
+        → brought_subs kinds at (states_of ss) call e moment ≡ brought_at kinds first s call e moment ++ brought_by s (step_at kinds first s call e moment) ∷ []
 
   pub next-first : (at to : ℕ) (ss : List (State M G)) → (0 < length ss → to < get_or (firsts at (states_of ss)) 0 0) → to < at + size_of (states_of ss) → to < at
   next-first at to [] next high = omega (arith, high)
   next-first at to (s ∷ ss) next high = next (omega arith)
 
   step-here : (at : ℕ) (s : State M G) (ss : List (State M G)) (call : ℕ) (e : Event) (moment : ℕ) (b : Bool) → nat_lt (node_of e) (at + size s) ≡ b
-      → step_subs kinds at (states_of (s ∷ ss)) call e moment ≡ cond b (with_run (s ∷ ss) 0 s (step_at kinds at s call e moment)) (beside s (step_subs kinds (at + size s) (states_of ss) call e moment))
+      → step_subs kinds at (states_of (s ∷ ss)) call e moment ≡ cond b (with_run (s ∷ ss) 0 s (step_at kinds at s call e moment))
+      (beside s (step_subs kinds (at + size s) (states_of ss) call e moment))
   step-here at s ss call e moment b is = ap (λ v. cond v (with_run (s ∷ ss) 0 s (step_at kinds at s call e moment)) (beside s (step_subs kinds (at + size s) (states_of ss) call e moment))) is
 
   brought-here : (at : ℕ) (s : State M G) (ss : List (State M G)) (call : ℕ) (e : Event) (moment : ℕ) (b : Bool) → nat_lt (node_of e) (at + size s) ≡ b
-      → brought_subs kinds at (states_of (s ∷ ss)) call e moment ≡ cond b (brought_at kinds at s call e moment ++ brought_by s (step_at kinds at s call e moment) ∷ []) (brought_subs kinds (at + size s) (states_of ss) call e moment)
-  brought-here at s ss call e moment b is = ap (λ v. cond v (brought_at kinds at s call e moment ++ brought_by s (step_at kinds at s call e moment) ∷ []) (brought_subs kinds (at + size s) (states_of ss) call e moment)) is
+      → brought_subs kinds at (states_of (s ∷ ss)) call e moment ≡ cond b (brought_at kinds at s call e moment ++ brought_by s (step_at kinds at s call e moment) ∷ [])
+      (brought_subs kinds (at + size s) (states_of ss) call e moment)
+  brought-here at s ss call e moment b is =
+      ap (λ v. cond v (brought_at kinds at s call e moment ++ brought_by s (step_at kinds at s call e moment) ∷ []) (brought_subs kinds (at + size s) (states_of ss) call e moment)) is
 
   sub-holds : (at to : ℕ) (ss : List (State M G)) (i : ℕ) (s : State M G) → s ≡ get_or ss i s → i < length ss → get_or (firsts at (states_of ss)) i 0 ≤ to
       → ((k : ℕ) → i < k → k < length ss → to < get_or (firsts at (states_of ss)) k 0) → to < at + size_of (states_of ss) → IsSub at to ss i (get_or (firsts at (states_of ss)) i 0) s
@@ -121,11 +126,14 @@ module _ {M G : Type 0} (kinds : Kinds M G) where
         low = rest.low;
         high = rest.high;
         within = (let w = rest.within in omega (arith, w));
-        steps = λ call e moment same. step-here at x ss call e moment false (let test : nat_lt (node_of e) (at + size x) ≡ false = grind (arith, nat_tests) in test) ∙ ap (beside x) (rest.steps call e moment same);
-        brings = λ call e moment same. brought-here at x ss call e moment false (let test : nat_lt (node_of e) (at + size x) ≡ false = grind (arith, nat_tests) in test) ∙ rest.brings call e moment same;
+        steps = λ call e moment same. step-here at x ss call e moment false (let test : nat_lt (node_of e) (at + size x) ≡ false = grind (arith, nat_tests) in test)
+            ∙ ap (beside x) (rest.steps call e moment same);
+        brings = λ call e moment same. brought-here at x ss call e moment false (let test : nat_lt (node_of e) (at + size x) ≡ false = grind (arith, nat_tests) in test)
+            ∙ rest.brings call e moment same;
       }
 
-  pub sub-of : (node to : ℕ) (ss : List (State M G)) (i first : ℕ) (s : State M G) → IsAt node to (states_of ss) i first → s ≡ get_or ss i s → to < node + (1 + size_of (states_of ss)) → IsSub (node + 1) to ss i first s
+  pub sub-of : (node to : ℕ) (ss : List (State M G)) (i first : ℕ) (s : State M G) → IsAt node to (states_of ss) i first → s ≡ get_or ss i s → to < node + (1 + size_of (states_of ss))
+      → IsSub (node + 1) to ss i first s
   sub-of node to ss i first s h is high =
       let n = firsts-length (node + 1) ss in
       let low = h.low in

@@ -23,7 +23,8 @@ same-number a b e = grind (arith, nat_tests)
 
 module _ {M G : Type 0} (kinds : Kinds M G) where
   -- what is decided of the whole node is decided of its leaf
-  pub leaf-decided : (n : Node M G) (l : LeafNode) (self : State M G) (number : ℕ) (e : Event) (end : Option End) (call moment : ℕ) → state_of n ≡ self → n ≡ node.Leaf l → l.end ≡ None → node_of e ≡ number
+  pub leaf-decided : (n : Node M G) (l : LeafNode) (self : State M G) (number : ℕ) (e : Event) (end : Option End) (call moment : ℕ) → state_of n ≡ self → n ≡ node.Leaf l → l.end ≡ None
+      → node_of e ≡ number
       → end ≡ new_end (end_of self) (end_of (step_at kinds number self call e moment).state) → end ≡ (leaf_step (arc_value l.chan).retry (leaf_with l.leaf l.end) e).end
   leaf-decided n l self number e end call moment view is open_ at decided =
       let leaf = leaf_with l.leaf l.end in
@@ -31,5 +32,6 @@ module _ {M G : Type 0} (kinds : Kinds M G) where
       let now = leaf_step (arc_value l.chan).retry leaf e in
       decided
       ∙ ap (λ s. new_end (end_of s) (end_of (step_at kinds number s call e moment).state)) shown
-      ∙ ap (λ b. new_end l.end (end_of (cond b (leaf_run (arc_value l.chan) call number l.request leaf now) (quiet {M = M} {G = G} (leaf_state (arc_value l.chan) l.request leaf))).state)) (same-number (node_of e) number at)
+      ∙ ap (λ b. new_end l.end (end_of (cond b (leaf_run (arc_value l.chan) call number l.request leaf now) (quiet {M = M} {G = G} (leaf_state (arc_value l.chan) l.request leaf))).state))
+      (same-number (node_of e) number at)
       ∙ ap (λ o. new_end o now.end) open_

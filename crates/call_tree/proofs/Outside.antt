@@ -16,7 +16,8 @@ not-below : (a b : ℕ) → b ≤ a → nat_lt a b ≡ false
 not-below a b le = grind (arith, nat_tests)
 
 module _ {M G : Type 0} (kinds : Kinds M G) where
-  par-outside : (number : ℕ) (par : Par G) (states : States M G) (call : ℕ) (e : Event) (moment : ℕ) (o : Option End) → par.end ≡ o → (node_of e == number) ≡ false → step_subs kinds (number + 1) states call e moment ≡ still states
+  par-outside : (number : ℕ) (par : Par G) (states : States M G) (call : ℕ) (e : Event) (moment : ℕ) (o : Option End) → par.end ≡ o → (node_of e == number) ≡ false
+      → step_subs kinds (number + 1) states call e moment ≡ still states
       → step_at kinds number (par_state par states) call e moment ≡ quiet (par_state par states)
   par-outside number par states call e moment None is other below =
       ap (λ o. while_open o (par_state par states) (cond (node_of e == number) (par_at kinds par states e) (par_stepped kinds par (step_subs kinds (number + 1) states call e moment)))) is
@@ -26,7 +27,8 @@ module _ {M G : Type 0} (kinds : Kinds M G) where
   par-outside number par states call e moment (Some end) is other below =
       ap (λ o. while_open o (par_state par states) (cond (node_of e == number) (par_at kinds par states e) (par_stepped kinds par (step_subs kinds (number + 1) states call e moment)))) is
 
-  sel-outside : (number : ℕ) (sel : Sel) (states : States M G) (call : ℕ) (e : Event) (moment : ℕ) (o : Option End) → sel.end ≡ o → (node_of e == number) ≡ false → step_tries kinds (number + 1) states call e moment sel.request ≡ still states
+  sel-outside : (number : ℕ) (sel : Sel) (states : States M G) (call : ℕ) (e : Event) (moment : ℕ) (o : Option End) → sel.end ≡ o → (node_of e == number) ≡ false
+      → step_tries kinds (number + 1) states call e moment sel.request ≡ still states
       → step_at kinds number (sel_state sel states) call e moment ≡ quiet (sel_state sel states)
   sel-outside number sel states call e moment None is other below =
       ap (λ o. while_open o (sel_state sel states) (cond (node_of e == number) (sel_at sel states e) (sel_stepped sel (step_tries kinds (number + 1) states call e moment sel.request)))) is
@@ -44,20 +46,24 @@ module _ {M G : Type 0} (kinds : Kinds M G) where
     step_outside number (par_state par states) call e moment past_it =
         par-outside number par states call e moment par.end refl (past (node_of e) number (omega (arith, past_it))) (subs-outside (number + 1) states call e moment (omega (arith, past_it)))
     step_outside number (sel_state sel states) call e moment past_it =
-        sel-outside number sel states call e moment sel.end refl (past (node_of e) number (omega (arith, past_it))) (tries-outside (number + 1) states call e moment sel.request (omega (arith, past_it)))
+        sel-outside number sel states call e moment sel.end refl (past (node_of e) number (omega (arith, past_it)))
+        (tries-outside (number + 1) states call e moment sel.request (omega (arith, past_it)))
 
     subs-outside : (number : ℕ) (states : States M G) (call : ℕ) (e : Event) (moment : ℕ) → number + size_of states ≤ node_of e → step_subs kinds number states call e moment ≡ still states
     subs-outside number last_state call e moment past_it = refl
     subs-outside number (state_then state states) call e moment past_it =
         let run = step_at kinds number state call e moment in
-        ap (λ b. cond b (run_beside run states (new_end (end_of state) (end_of run.state))) (beside state (step_subs kinds (number + size state) states call e moment))) (not-below (node_of e) (number + size state) (omega (arith, past_it)))
+        ap (λ b. cond b (run_beside run states (new_end (end_of state) (end_of run.state))) (beside state (step_subs kinds (number + size state) states call e moment)))
+        (not-below (node_of e) (number + size state) (omega (arith, past_it)))
         ∙ ap (beside state) (subs-outside (number + size state) states call e moment (omega (arith, past_it)))
 
-    tries-outside : (number : ℕ) (states : States M G) (call : ℕ) (e : Event) (moment : ℕ) (request : List ℕ) → number + size_of states ≤ node_of e → step_tries kinds number states call e moment request ≡ still states
+    tries-outside : (number : ℕ) (states : States M G) (call : ℕ) (e : Event) (moment : ℕ) (request : List ℕ) → number + size_of states ≤ node_of e
+        → step_tries kinds number states call e moment request ≡ still states
     tries-outside number last_state call e moment request past_it = refl
     tries-outside number (state_then state states) call e moment request past_it =
         let run = step_at kinds number state call e moment in
-        ap (λ b. cond b (try_run run states (start_waiting kinds (number + size state) states call request moment) (new_end (end_of state) (end_of run.state))) (beside state (step_tries kinds (number + size state) states call e moment request)))
+        ap (λ b. cond b (try_run run states (start_waiting kinds (number + size state) states call request moment) (new_end (end_of state) (end_of run.state)))
+        (beside state (step_tries kinds (number + size state) states call e moment request)))
         (not-below (node_of e) (number + size state) (omega (arith, past_it)))
         ∙ ap (beside state) (tries-outside (number + size state) states call e moment request (omega (arith, past_it)))
 

@@ -87,13 +87,15 @@ module _ {M G : Type 0} (kinds : Kinds M G) where
   step-ended : (number : ℕ) (state : State M G) (call : ℕ) (e : Event) (moment : ℕ) (end : End) → end_of state ≡ Some end → (step_at kinds number state call e moment).state ≡ state
   step-ended number (waits plan) call e moment end h = refl
   step-ended number (leaf_state chan request leaf) call e moment end h =
-      elim (node_of e == number) as (λ v. (cond v (leaf_run chan call number request leaf (leaf_step chan.retry leaf e)) (quiet {M = M} {G = G} (leaf_state chan request leaf))).state ≡ leaf_state chan request leaf)
+      elim (node_of e == number) as (λ v. (cond v (leaf_run chan call number request leaf (leaf_step chan.retry leaf e)) (quiet {M = M} {G = G} (leaf_state chan request leaf))).state ≡
+      leaf_state chan request leaf)
       [ true ↦ ap (leaf_state chan request) (leaf-ended chan.retry leaf e end h) | false ↦ refl ]
   step-ended number (par_state par states) call e moment end h = rw h refl
   step-ended number (sel_state sel states) call e moment end h = rw h refl
 
   -- a node that an event brings no end has the end that it had
-  pub same-end : (first : ℕ) (s : State M G) (call : ℕ) (e : Event) (moment : ℕ) (o : Option End) → end_of s ≡ o → None ≡ new_end o (end_of (step_at kinds first s call e moment).state) → end_of (step_at kinds first s call e moment).state ≡ o
+  pub same-end : (first : ℕ) (s : State M G) (call : ℕ) (e : Event) (moment : ℕ) (o : Option End) → end_of s ≡ o → None ≡ new_end o (end_of (step_at kinds first s call e moment).state)
+      → end_of (step_at kinds first s call e moment).state ≡ o
   same-end first s call e moment None is up = sym up
   same-end first s call e moment (Some end) is up = ap end_of (step-ended first s call e moment end is) ∙ is
 
@@ -114,7 +116,8 @@ module _ {M G : Type 0} (kinds : Kinds M G) where
     pub after : (now : State M G) (over : Option End) → now ≡ (step_at kinds first s call e moment).state → over ≡ new_end (end_of self) (end_of (step_at kinds number self call e moment).state)
         → par_state (record { limits = limits_of p.counts; merges = p.merges; end = over }) (states_of (set p.kids.items i now)) ≡ (step_at kinds number self call e moment).state
 
-  pub par-step : (p : ParNode M G) (self : State M G) (number : ℕ) (e : Event) (i first : ℕ) (s : State M G) (call moment : ℕ) → IsOpenPar p self → (node_of e ≡ number → ⊥) → node_of e < number + size self
+  pub par-step : (p : ParNode M G) (self : State M G) (number : ℕ) (e : Event) (i first : ℕ) (s : State M G) (call moment : ℕ) → IsOpenPar p self → (node_of e ≡ number → ⊥)
+      → node_of e < number + size self
       → IsAt number (node_of e) (states_of p.kids.items) i first → s ≡ get_or p.kids.items i s → IsParStep p self number e i first s call moment
   par-step p self number e i first s call moment f differ high at is =
       let sub = sub-of kinds number (node_of e) p.kids.items i first s at is (par-high p self number (node_of e) f high) in
@@ -128,12 +131,14 @@ module _ {M G : Type 0} (kinds : Kinds M G) where
       ∙ ap (λ o. while_open o (par_state par states) (cond (node_of e == number) (par_at kinds par states e) (par_stepped kinds par (step_subs kinds (number + 1) states call e moment)))) f.none
       ∙ ap (λ b. cond b (par_at kinds par states e) (par_stepped kinds par (step_subs kinds (number + 1) states call e moment))) test
       ∙ ap (par_stepped kinds par) (sub.steps call e moment refl) in
-      let over_is : new_end (end_of self) (end_of (step_at kinds number self call e moment).state) ≡ where_ended (new_end (end_of s) (end_of run.state)) (judged kinds (limits_of p.counts) p.merges (ends_of (states_of (set p.kids.items i run.state)))) =
+      let over_is : new_end (end_of self) (end_of (step_at kinds number self call e moment).state) ≡ where_ended (new_end (end_of s) (end_of run.state))
+      (judged kinds (limits_of p.counts) p.merges (ends_of (states_of (set p.kids.items i run.state)))) =
       ap (λ o. new_end o (end_of (step_at kinds number self call e moment).state)) before ∙ ap (λ (r : Run M G). end_of r.state) stepped in
       record {
         sends = sym (ap (λ (r : Run M G). r.sends) stepped);
         marks = sym (ap (λ (r : Run M G). r.marks) stepped);
-        rises = λ up rose. up-is p i (end_of s) (end_of run.state) up rose ∙ sym (over_is ∙ ap (λ es. where_ended (new_end (end_of s) (end_of run.state)) (judged kinds (limits_of p.counts) p.merges es)) (ends-set p.kids.items i run.state));
+        rises = λ up rose. up-is p i (end_of s) (end_of run.state) up rose
+            ∙ sym (over_is ∙ ap (λ es. where_ended (new_end (end_of s) (end_of run.state)) (judged kinds (limits_of p.counts) p.merges es)) (ends-set p.kids.items i run.state));
         brought =
             ap (λ x. brought_at kinds number x call e moment) f.is
             ∙ ap (λ o. brought.while_open o (cond (node_of e == number) [] (brought_subs kinds (number + 1) states call e moment))) f.none
@@ -146,13 +151,16 @@ module _ {M G : Type 0} (kinds : Kinds M G) where
       }
 
   -- the bounds of the sub
-  pub par-sub : (p : ParNode M G) (self : State M G) (number : ℕ) (e : Event) (i first : ℕ) (s : State M G) → IsOpenPar p self → node_of e < number + size self → IsAt number (node_of e) (states_of p.kids.items) i first → s ≡ get_or p.kids.items i s
+  pub par-sub : (p : ParNode M G) (self : State M G) (number : ℕ) (e : Event) (i first : ℕ) (s : State M G) → IsOpenPar p self → node_of e < number + size self
+      → IsAt number (node_of e) (states_of p.kids.items) i first → s ≡ get_or p.kids.items i s
       → IsSub kinds (number + 1) (node_of e) p.kids.items i first s
   par-sub p self number e i first s f high at is = sub-of kinds number (node_of e) p.kids.items i first s at is (par-high p self number (node_of e) f high)
 
   -- the invariant after it
-  pub par-kept : (p now : ParNode M G) (i first : ℕ) (s item : State M G) (call : ℕ) (e : Event) (moment : ℕ) (up : Option End) → IsParNode p → p.end ≡ None → i < length p.kids.items → s ≡ get_or p.kids.items i s → item ≡ (step_at kinds first s call e moment).state
-      → up ≡ new_end (end_of s) (end_of (step_at kinds first s call e moment).state) → now.counts ≡ with_some p.counts up → now.end ≡ brought_up kinds (limits_of p.counts) p.merges (ends_of (states_of p.kids.items)) i up
+  pub par-kept : (p now : ParNode M G) (i first : ℕ) (s item : State M G) (call : ℕ) (e : Event) (moment : ℕ) (up : Option End) → IsParNode p → p.end ≡ None → i < length p.kids.items
+      → s ≡ get_or p.kids.items i s → item ≡ (step_at kinds first s call e moment).state
+      → up ≡ new_end (end_of s) (end_of (step_at kinds first s call e moment).state) → now.counts ≡ with_some p.counts up
+      → now.end ≡ brought_up kinds (limits_of p.counts) p.merges (ends_of (states_of p.kids.items)) i up
       → now.firsts.items ≡ p.firsts.items → now.kids.items ≡ set p.kids.items i item → IsParNode now
   par-kept p now i first s item call e moment None sound none h is item_is up counts over places kids =
       let ends = ends_of (states_of p.kids.items) in
@@ -163,21 +171,26 @@ module _ {M G : Type 0} (kinds : Kinds M G) where
         open_ = subst (λ o. IsOpen now.counts o) (sym (over ∙ sym none)) (subst (λ c. IsOpen c p.end) (sym counts) sound.open_);
         goods = ap (λ c. c.goods) counts ∙ sound.goods ∙ sym (ap goods ends_are);
         bads = ap (λ c. c.bads) counts ∙ sound.bads ∙ sym (ap bads ends_are);
-        places = places ∙ sound.places ∙ sym (ap (λ (ss : List (State M G)). firsts 1 (states_of ss)) kids ∙ firsts-set 1 p.kids.items i s item is (ap size item_is ∙ size-step kinds first s call e moment));
+        places = places ∙ sound.places
+            ∙ sym (ap (λ (ss : List (State M G)). firsts 1 (states_of ss)) kids ∙ firsts-set 1 p.kids.items i s item is (ap size item_is ∙ size-step kinds first s call e moment));
       }
   par-kept p now i first s item call e moment (Some end) sound none h is item_is up counts over places kids =
       let ends = ends_of (states_of p.kids.items) in
       let run = step_at kinds first s call e moment in
       let ended : end_of item ≡ Some end = ap end_of item_is ∙ now-ended (end_of s) (end_of run.state) end (sym up) in
       let fresh : get_or ends i None ≡ None = ends-get p.kids.items i s h is ∙ was-open (end_of s) (end_of run.state) end (sym up) in
-      let a : AreCounts (with_end p.counts end) (set ends i (Some end)) = counted ends i end p.counts (let n = ends-length p.kids.items in omega (arith, n, h)) fresh (record { goods_are = sound.goods; bads_are = sound.bads }) in
+      let a : AreCounts (with_end p.counts end) (set ends i (Some end)) =
+      counted ends i end p.counts (let n = ends-length p.kids.items in omega (arith, n, h)) fresh (record { goods_are = sound.goods; bads_are = sound.bads }) in
       let ends_are : ends_of (states_of now.kids.items) ≡ set ends i (Some end) = ap (λ (ss : List (State M G)). ends_of (states_of ss)) kids ∙ ends-set p.kids.items i item ∙ ap (set ends i) ended in
-      let over_is : now.end ≡ judged kinds (limits_of (with_end p.counts end)) p.merges (set ends i (Some end)) = over ∙ sym (ap (λ l. judged kinds l p.merges (set ends i (Some end))) (limits-some p.counts (Some end))) in
+      let over_is : now.end ≡ judged kinds (limits_of (with_end p.counts end)) p.merges (set ends i (Some end)) =
+      over ∙ sym (ap (λ l. judged kinds l p.merges (set ends i (Some end))) (limits-some p.counts (Some end))) in
       record {
-        open_ = subst (λ o. IsOpen now.counts o) (sym over_is) (subst (λ c. IsOpen c (judged kinds (limits_of (with_end p.counts end)) p.merges (set ends i (Some end)))) (sym counts) (judged-open kinds (with_end p.counts end) p.merges (set ends i (Some end)) a));
+        open_ = subst (λ o. IsOpen now.counts o) (sym over_is) (subst (λ c. IsOpen c (judged kinds (limits_of (with_end p.counts end)) p.merges (set ends i (Some end)))) (sym counts)
+            (judged-open kinds (with_end p.counts end) p.merges (set ends i (Some end)) a));
         goods = ap (λ c. c.goods) counts ∙ a.goods_are ∙ sym (ap goods ends_are);
         bads = ap (λ c. c.bads) counts ∙ a.bads_are ∙ sym (ap bads ends_are);
-        places = places ∙ sound.places ∙ sym (ap (λ (ss : List (State M G)). firsts 1 (states_of ss)) kids ∙ firsts-set 1 p.kids.items i s item is (ap size item_is ∙ size-step kinds first s call e moment));
+        places = places ∙ sound.places
+            ∙ sym (ap (λ (ss : List (State M G)). firsts 1 (states_of ss)) kids ∙ firsts-set 1 p.kids.items i s item is (ap size item_is ∙ size-step kinds first s call e moment));
       }
 
 pub some-last : {X : Type 0} (all xs : List X) (x : X) → all ≡ xs ++ x ∷ [] → 0 < length all
@@ -189,11 +202,13 @@ module _ {M G : Type 0} where
   below-is before left above last by p q = last-item left above last by (sym q ∙ p)
 
   -- a sub that gets an end had none
-  pub fresh-sub : (p : ParNode M G) (i : ℕ) (s : State M G) (n up : Option End) → i < length p.kids.items → s ≡ get_or p.kids.items i s → up ≡ new_end (end_of s) n → is_some up ≡ true → get_or (ends_of (states_of p.kids.items)) i None ≡ None
+  pub fresh-sub : (p : ParNode M G) (i : ℕ) (s : State M G) (n up : Option End) → i < length p.kids.items → s ≡ get_or p.kids.items i s → up ≡ new_end (end_of s) n → is_some up ≡ true
+      → get_or (ends_of (states_of p.kids.items)) i None ≡ None
   fresh-sub p i s n None h is rose some = absurd (cc)
   fresh-sub p i s n (Some end) h is rose some = ends-get p.kids.items i s h is ∙ was-open (end_of s) n end (sym rose)
 
-  pub brought-with : (xs ys : List (Brought M G)) (up end : Option End) (started : List (State M G)) → xs ≡ ys → up ≡ end → started ≡ [] → xs ++ record { end = up; started = started } ∷ [] ≡ ys ++ record { end = end; started = [] } ∷ []
+  pub brought-with : (xs ys : List (Brought M G)) (up end : Option End) (started : List (State M G)) → xs ≡ ys → up ≡ end → started ≡ []
+      → xs ++ record { end = up; started = started } ∷ [] ≡ ys ++ record { end = end; started = [] } ∷ []
   brought-with xs ys up end started p q r =
       ap (λ (zs : List (Brought M G)). zs ++ record { end = up; started = started } ∷ []) p
       ∙ ap (λ (o : Option End). ys ++ record { end = o; started = started } ∷ []) q

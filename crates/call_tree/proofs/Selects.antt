@@ -1,5 +1,6 @@
 -- What an event does at a selective node without an end.
-use Rattle.std.proofs.Common.{◌≡◌, ℕ, zero, suc, ◌+◌, ◌<◌, ◌≤◌, Bool, true, false, cond, ◌==◌, nat_lt, List, [], ◌∷◌, ◌++◌, length, get_or, set, take, drop, Option, Some, None, is_some, arith, refl, ap, sym, ◌∙◌, subst}
+use Rattle.std.proofs.Common.{◌≡◌, ℕ, zero, suc, ◌+◌, ◌<◌, ◌≤◌, Bool, true, false, cond, ◌==◌, nat_lt, List, [], ◌∷◌, ◌++◌, length, get_or, set, take, drop, Option, Some, None, is_some}
+use Rattle.std.proofs.Common.{arith, refl, ap, sym, ◌∙◌, subst}
 use Rattle.std.proofs.lemmas.Bool.Decides.{nat_tests}
 use Rattle.std.proofs.lemmas.List.{append_assoc}
 use Rattle.rpc_model.specs.declared.event.End.{End}
@@ -61,11 +62,15 @@ module _ {M G : Type 0} (kinds : Kinds M G) where
 
   -- what an event below a selective node comes to, where the tries behind have this number
   pub record IsSelStep (p : SelNode M G) (self : State M G) (number : ℕ) (e : Event) (i first : ℕ) (s : State M G) (call moment : ℕ) : Type 0 where
-    pub sends : (step_at kinds first s call e moment).sends ++ (follows kinds p.kids.items i (first + size s) call p.request moment (new_end (end_of s) (end_of (step_at kinds first s call e moment).state))).sends ≡ (step_at kinds number self call e moment).sends
-    pub marks : (step_at kinds first s call e moment).marks ++ (follows kinds p.kids.items i (first + size s) call p.request moment (new_end (end_of s) (end_of (step_at kinds first s call e moment).state))).marks ≡ (step_at kinds number self call e moment).marks
-    pub rises : (follows kinds p.kids.items i (first + size s) call p.request moment (new_end (end_of s) (end_of (step_at kinds first s call e moment).state))).end ≡ new_end (end_of self) (end_of (step_at kinds number self call e moment).state)
+    pub sends : (step_at kinds first s call e moment).sends ++ (follows kinds p.kids.items i (first + size s) call p.request moment
+        (new_end (end_of s) (end_of (step_at kinds first s call e moment).state))).sends ≡ (step_at kinds number self call e moment).sends
+    pub marks : (step_at kinds first s call e moment).marks ++ (follows kinds p.kids.items i (first + size s) call p.request moment
+        (new_end (end_of s) (end_of (step_at kinds first s call e moment).state))).marks ≡ (step_at kinds number self call e moment).marks
+    pub rises : (follows kinds p.kids.items i (first + size s) call p.request moment (new_end (end_of s) (end_of (step_at kinds first s call e moment).state))).end ≡ new_end (end_of self)
+        (end_of (step_at kinds number self call e moment).state)
     pub brought : brought_at kinds number self call e moment
-        ≡ brought_at kinds first s call e moment ++ brings_try kinds p.kids.items i (first + size s) call p.request moment (new_end (end_of s) (end_of (step_at kinds first s call e moment).state)) ∷ []
+        ≡ brought_at kinds first s call e moment ++ brings_try kinds p.kids.items i (first + size s) call p.request moment
+        (new_end (end_of s) (end_of (step_at kinds first s call e moment).state)) ∷ []
     pub after : (now : State M G) (ts : List (State M G)) (over : Option End) → now ≡ (step_at kinds first s call e moment).state
         → ts ≡ (brings_try kinds p.kids.items i (first + size s) call p.request moment (new_end (end_of s) (end_of (step_at kinds first s call e moment).state))).started
         → over ≡ new_end (end_of self) (end_of (step_at kinds number self call e moment).state)
@@ -73,9 +78,12 @@ module _ {M G : Type 0} (kinds : Kinds M G) where
     pub kept : (now : State M G) (ts : List (State M G)) → now ≡ (step_at kinds first s call e moment).state
         → ts ≡ (brings_try kinds p.kids.items i (first + size s) call p.request moment (new_end (end_of s) (end_of (step_at kinds first s call e moment).state))).started
         → firsts 1 (states_of (put_from (suc i) ts (set p.kids.items i now))) ≡ firsts 1 (states_of p.kids.items)
-    pub fits : (ts : List (State M G)) → ts ≡ (brings_try kinds p.kids.items i (first + size s) call p.request moment (new_end (end_of s) (end_of (step_at kinds first s call e moment).state))).started → i + 1 + length ts ≤ length p.kids.items
+    pub fits : (ts : List (State M G))
+        → ts ≡ (brings_try kinds p.kids.items i (first + size s) call p.request moment (new_end (end_of s) (end_of (step_at kinds first s call e moment).state))).started
+        → i + 1 + length ts ≤ length p.kids.items
 
-  pub sel-step : (p : SelNode M G) (self : State M G) (number : ℕ) (e : Event) (i first : ℕ) (s : State M G) (call moment : ℕ) → IsOpenSel p self → (node_of e ≡ number → ⊥) → node_of e < number + size self
+  pub sel-step : (p : SelNode M G) (self : State M G) (number : ℕ) (e : Event) (i first : ℕ) (s : State M G) (call moment : ℕ) → IsOpenSel p self → (node_of e ≡ number → ⊥)
+      → node_of e < number + size self
       → IsAt number (node_of e) (states_of p.kids.items) i first → s ≡ get_or p.kids.items i s → IsSelStep p self number e i first s call moment
   sel-step p self number e i first s call moment f differ high at is =
       let kids = p.kids.items in
@@ -129,11 +137,13 @@ module _ {M G : Type 0} (kinds : Kinds M G) where
       }
 
   -- the number that the code gives the next try
-  pub next-same : (p : SelNode M G) (number to i first next : ℕ) (s : State M G) (call : ℕ) (request : List ℕ) (moment : ℕ) → IsSelNode p → IsAt number to (states_of p.kids.items) i first → s ≡ get_or p.kids.items i s → (i + 1 < length p.kids.items → next ≡ number + get_or p.firsts.items (i + 1) 0)
+  pub next-same : (p : SelNode M G) (number to i first next : ℕ) (s : State M G) (call : ℕ) (request : List ℕ) (moment : ℕ) → IsSelNode p → IsAt number to (states_of p.kids.items) i first
+      → s ≡ get_or p.kids.items i s → (i + 1 < length p.kids.items → next ≡ number + get_or p.firsts.items (i + 1) 0)
       → start_waiting kinds next (rest_from kinds p.kids.items i) call request moment ≡ start_waiting kinds (first + size s) (rest_from kinds p.kids.items i) call request moment
   next-same p number to i first next s call request moment sound at is known = by (nat_lt (i + 1) (length p.kids.items)) refl
     where
-      by : (b : Bool) → nat_lt (i + 1) (length p.kids.items) ≡ b → start_waiting kinds next (rest_from kinds p.kids.items i) call request moment ≡ start_waiting kinds (first + size s) (rest_from kinds p.kids.items i) call request moment
+      by : (b : Bool) → nat_lt (i + 1) (length p.kids.items) ≡ b
+          → start_waiting kinds next (rest_from kinds p.kids.items i) call request moment ≡ start_waiting kinds (first + size s) (rest_from kinds p.kids.items i) call request moment
       by true test =
           let kids = p.kids.items in
           let less : i + 1 < length kids = grind (arith, nat_tests) in
@@ -151,10 +161,12 @@ module _ {M G : Type 0} (kinds : Kinds M G) where
           let kids = p.kids.items in
           let past : length kids ≤ suc i = grind (arith, nat_tests) in
           let none = none-past kids (suc i) past in
-          ap (λ (ss : List (State M G)). start_waiting kinds next (states_of ss) call request moment) none ∙ sym (ap (λ (ss : List (State M G)). start_waiting kinds (first + size s) (states_of ss) call request moment) none)
+          ap (λ (ss : List (State M G)). start_waiting kinds next (states_of ss) call request moment) none
+          ∙ sym (ap (λ (ss : List (State M G)). start_waiting kinds (first + size s) (states_of ss) call request moment) none)
 
 module _ {M G : Type 0} where
-  pub brought-pair : (xs ys : List (Brought M G)) (up end : Option End) (started st : List (State M G)) → xs ≡ ys → up ≡ end → started ≡ st → xs ++ record { end = up; started = started } ∷ [] ≡ ys ++ record { end = end; started = st } ∷ []
+  pub brought-pair : (xs ys : List (Brought M G)) (up end : Option End) (started st : List (State M G)) → xs ≡ ys → up ≡ end → started ≡ st
+      → xs ++ record { end = up; started = started } ∷ [] ≡ ys ++ record { end = end; started = st } ∷ []
   brought-pair xs ys up end started st p q r =
       ap (λ (zs : List (Brought M G)). zs ++ record { end = up; started = started } ∷ []) p
       ∙ ap (λ (o : Option End). ys ++ record { end = o; started = started } ∷ []) q

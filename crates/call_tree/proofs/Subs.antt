@@ -1,5 +1,6 @@
 -- The subs of a parallel node start one after the other.
-use Rattle.std.proofs.Common.{◌≡◌, ℕ, zero, suc, ◌+◌, ◌<◌, ◌≤◌, Bool, true, false, cond, not, List, [], ◌∷◌, ◌++◌, length, get_or, drop, count_by, Option, Some, None, is_none, is_some, arith, refl, ap, sym, ◌∙◌, subst, add-one}
+use Rattle.std.proofs.Common.{◌≡◌, ℕ, zero, suc, ◌+◌, ◌<◌, ◌≤◌, Bool, true, false, cond, not, List, [], ◌∷◌, ◌++◌, length, get_or, drop, count_by, Option, Some, None, is_none, is_some}
+use Rattle.std.proofs.Common.{arith, refl, ap, sym, ◌∙◌, subst, add-one}
 use Rattle.std.proofs.Math.Seq.{drop-cons}
 use Rattle.std.proofs.lemmas.Bool.Decides.{nat_tests}
 use Rattle.std.proofs.lemmas.List.{append-nil, append_assoc}
@@ -15,7 +16,8 @@ use Rattle.rpc_model.specs.Kinds.{Kinds}
 use Rattle.rpc_model.specs.Plan.{Rule, Plan, leaf_plan, par_plan, sel_plan, Plans, plan_then, last_plan}
 use Rattle.rpc_model.specs.Versions.{nodes}
 use Rattle.rpc_model.specs.Parallel.{Limits, limit, limits, is_asked, is_bad, mapped_from, mapped, refused, judged}
-use Rattle.rpc_model.specs.State.{State, waits, leaf_state, par_state, sel_state, States, last_state, state_then, Run, Below, end_of, ends_of, size, size_of, run_then, run_beside, waiting_states, still}
+use Rattle.rpc_model.specs.State.{State, waits, leaf_state, par_state, sel_state, States, last_state, state_then, Run, Below, end_of, ends_of, size, size_of, run_then, run_beside}
+use Rattle.rpc_model.specs.State.{waiting_states, still}
 use Rattle.rpc_model.specs.Machine.{where_ended, sub_started, par_started, start_at, start_subs}
 use Rattle.chan_tree.specs.Shown.{plans_of}
 use Rattle.call_tree.specs.declared.counts.Counts.{Counts}
@@ -40,7 +42,8 @@ limit-some : (k n : ℕ) → 1 ≤ n → 1 ≤ limit k n
 limit-some zero n h = h
 limit-some (suc k) n h = grind (arith, nat_tests)
 
-pub begun-open : {M G : Type 0} (rule : Rule M G) (asked : List Mapped) (c : Counts) (end : Option End) → limits_of c ≡ limits rule asked → c.goods ≡ 0 → c.bads ≡ 0 → end ≡ refused asked → IsOpen c end
+pub begun-open : {M G : Type 0} (rule : Rule M G) (asked : List Mapped) (c : Counts) (end : Option End) → limits_of c ≡ limits rule asked → c.goods ≡ 0 → c.bads ≡ 0 → end ≡ refused asked
+    → IsOpen c end
 begun-open rule asked c end lim goods bads is = subst (IsOpen c) (sym is) (by (list_any is_bad asked) (list_any is_asked asked) refl)
   where
     by : (b a : Bool) → list_any is_asked asked ≡ a → IsOpen c (cond b (Some (end_word.Bad EREQUEST)) (cond a None (Some (end_word.Bad ECANCELED))))
@@ -76,7 +79,8 @@ module _ {M G : Type 0} where
   pub joined-then : (kids : List (State M G)) (sends : List Send) (marks : List Mark) (run : Run M G) (below : Below M G)
       → joined kids sends marks (run_then run below) ≡ joined (kids ++ run.state ∷ []) (sends ++ run.sends) (marks ++ run.marks) below
   joined-then kids sends marks run below =
-      below-is (append_states kids (state_then run.state below.states)) (append_states (kids ++ run.state ∷ []) below.states) (sends ++ (run.sends ++ below.sends)) ((sends ++ run.sends) ++ below.sends)
+      below-is (append_states kids (state_then run.state below.states)) (append_states (kids ++ run.state ∷ []) below.states) (sends ++ (run.sends ++ below.sends))
+      ((sends ++ run.sends) ++ below.sends)
       (marks ++ (run.marks ++ below.marks)) ((marks ++ run.marks) ++ below.marks) below.end
       (append-push kids run.state below.states) (sym (append_assoc sends run.sends below.sends)) (sym (append_assoc marks run.marks below.marks))
 
@@ -112,41 +116,51 @@ module _ {M G : Type 0} (kinds : Kinds M G) where
   left-next (Some end) number p ps call asked lim merges moment ends = refl
 
   -- the next sub was started or waits, and joined those before it
-  pub left-turn : (par now : ParNode M G) (old out : Outbox) (number : ℕ) (p : Plan M G) (ps : Plans M G) (call : ℕ) (asked rest : List Mapped) (request : Option (List ℕ)) (is_open : Bool) (tree : State M G) (lim : Limits) (merges : List G) (moment : ℕ) (all : Below M G)
+  pub left-turn : (par now : ParNode M G) (old out : Outbox) (number : ℕ) (p : Plan M G) (ps : Plans M G) (call : ℕ) (asked rest : List Mapped) (request : Option (List ℕ)) (is_open : Bool)
+      (tree : State M G) (lim : Limits) (merges : List G) (moment : ℕ) (all : Below M G)
       → limits_of par.counts ≡ lim → par.merges ≡ merges → is_open ≡ is_none par.end → request ≡ first_ask asked → rest ≡ rest_of asked
-      → tree ≡ (sub_run kinds is_open number p call request moment).state → IsGrown old out (sub_run kinds is_open number p call request moment).sends (sub_run kinds is_open number p call request moment).marks
+      → tree ≡ (sub_run kinds is_open number p call request moment).state
+      → IsGrown old out (sub_run kinds is_open number p call request moment).sends (sub_run kinds is_open number p call request moment).marks
       → now.kids.items ≡ par.kids.items ++ tree ∷ [] → now.end ≡ end_with kinds par.end (limits_of par.counts) par.merges (ends_of (states_of par.kids.items)) (end_of tree)
       → joined par.kids.items old.sends.items old.marks.items (subs_left kinds par.end number (plan_then p ps) call asked lim merges moment (ends_of (states_of par.kids.items))) ≡ all
       → joined now.kids.items out.sends.items out.marks.items (subs_left kinds now.end (number + nodes p) ps call rest lim merges moment (ends_of (states_of now.kids.items))) ≡ all
   left-turn par now old out number p ps call asked rest request is_open tree lim merges moment all limits_are merges_are open_ ask others tree_is grown kids over before =
       let run = sub_run kinds (is_none par.end) number p call (first_ask asked) moment in
-      let run_is : sub_run kinds is_open number p call request moment ≡ run = ap (λ b. sub_run kinds b number p call request moment) open_ ∙ ap (λ r. sub_run kinds (is_none par.end) number p call r moment) ask in
+      let run_is : sub_run kinds is_open number p call request moment ≡ run =
+      ap (λ b. sub_run kinds b number p call request moment) open_ ∙ ap (λ r. sub_run kinds (is_none par.end) number p call r moment) ask in
       let state_is : tree ≡ run.state = tree_is ∙ ap (λ (r : Run M G). r.state) run_is in
       let ends = ends_of (states_of par.kids.items) in
       let next = λ (o : Option End) (es : List (Option End)). subs_left kinds o (number + nodes p) ps call (rest_of asked) lim merges moment es in
       let kids_are : now.kids.items ≡ par.kids.items ++ run.state ∷ [] = kids ∙ ap (λ (s : State M G). par.kids.items ++ s ∷ []) state_is in
       let ends_are : ends_of (states_of now.kids.items) ≡ ends ++ end_of run.state ∷ [] = ap (λ (ss : List (State M G)). ends_of (states_of ss)) kids_are ∙ ends-push par.kids.items run.state in
       let over_is : now.end ≡ end_with kinds par.end lim merges ends (end_of run.state) =
-      over ∙ ap (λ l. end_with kinds par.end l par.merges ends (end_of tree)) limits_are ∙ ap (λ ms. end_with kinds par.end lim ms ends (end_of tree)) merges_are ∙ ap (λ (s : State M G). end_with kinds par.end lim merges ends (end_of s)) state_is in
+      over ∙ ap (λ l. end_with kinds par.end l par.merges ends (end_of tree)) limits_are ∙ ap (λ ms. end_with kinds par.end lim ms ends (end_of tree)) merges_are
+      ∙ ap (λ (s : State M G). end_with kinds par.end lim merges ends (end_of s)) state_is in
       let sends_are : out.sends.items ≡ old.sends.items ++ run.sends = grown.sent ∙ ap (λ (r : Run M G). old.sends.items ++ r.sends) run_is in
       let marks_are : out.marks.items ≡ old.marks.items ++ run.marks = grown.set ∙ ap (λ (r : Run M G). old.marks.items ++ r.marks) run_is in
-      ap (λ (r : List Mapped). joined now.kids.items out.sends.items out.marks.items (subs_left kinds now.end (number + nodes p) ps call r lim merges moment (ends_of (states_of now.kids.items)))) others
+      ap (λ (r : List Mapped). joined now.kids.items out.sends.items out.marks.items
+      (subs_left kinds now.end (number + nodes p) ps call r lim merges moment (ends_of (states_of now.kids.items)))) others
       ∙ ap (λ (es : List (Option End)). joined now.kids.items out.sends.items out.marks.items (next now.end es)) ends_are
       ∙ ap (λ (o : Option End). joined now.kids.items out.sends.items out.marks.items (next o (ends ++ end_of run.state ∷ []))) over_is
       ∙ ap (λ (ss : List (State M G)). joined ss out.sends.items out.marks.items (next (end_with kinds par.end lim merges ends (end_of run.state)) (ends ++ end_of run.state ∷ []))) kids_are
-      ∙ ap (λ (xs : List Send). joined (par.kids.items ++ run.state ∷ []) xs out.marks.items (next (end_with kinds par.end lim merges ends (end_of run.state)) (ends ++ end_of run.state ∷ []))) sends_are
-      ∙ ap (λ (xs : List Mark). joined (par.kids.items ++ run.state ∷ []) (old.sends.items ++ run.sends) xs (next (end_with kinds par.end lim merges ends (end_of run.state)) (ends ++ end_of run.state ∷ []))) marks_are
+      ∙ ap (λ (xs : List Send). joined (par.kids.items ++ run.state ∷ []) xs out.marks.items
+      (next (end_with kinds par.end lim merges ends (end_of run.state)) (ends ++ end_of run.state ∷ []))) sends_are
+      ∙ ap (λ (xs : List Mark). joined (par.kids.items ++ run.state ∷ []) (old.sends.items ++ run.sends) xs
+      (next (end_with kinds par.end lim merges ends (end_of run.state)) (ends ++ end_of run.state ∷ []))) marks_are
       ∙ sym (joined-then par.kids.items old.sends.items old.marks.items run (next (end_with kinds par.end lim merges ends (end_of run.state)) (ends ++ end_of run.state ∷ [])))
       ∙ sym (ap (joined par.kids.items old.sends.items old.marks.items) (left-next par.end number p ps call asked lim merges moment ends))
       ∙ before
 
-  none-left : (o : Option End) (number call : ℕ) (asked : List Mapped) (lim : Limits) (merges : List G) (moment : ℕ) (ends : List (Option End)) → subs_left kinds o number last_plan call asked lim merges moment ends ≡ record { states = last_state; sends = []; marks = []; end = o }
+  none-left : (o : Option End) (number call : ℕ) (asked : List Mapped) (lim : Limits) (merges : List G) (moment : ℕ) (ends : List (Option End))
+      → subs_left kinds o number last_plan call asked lim merges moment ends ≡ record { states = last_state; sends = []; marks = []; end = o }
   none-left None number call asked lim merges moment ends = refl
   none-left (Some end) number call asked lim merges moment ends = refl
 
   -- all subs have joined
   pub left-all : (par : ParNode M G) (old out : Outbox) (number : ℕ) (ps : Plans M G) (call : ℕ) (asked : List Mapped) (lim : Limits) (merges : List G) (moment : ℕ) (all : Below M G) → ps ≡ last_plan
-      → joined par.kids.items out.sends.items out.marks.items (subs_left kinds par.end number ps call asked lim merges moment (ends_of (states_of par.kids.items))) ≡ joined [] old.sends.items old.marks.items all → IsStarted par old out all
+      → joined par.kids.items out.sends.items out.marks.items (subs_left kinds par.end number ps call asked lim merges moment (ends_of (states_of par.kids.items))) ≡ joined []
+      old.sends.items old.marks.items all
+      → IsStarted par old out all
   left-all par old out number ps call asked lim merges moment all none h =
       let left : Below M G = record { states = last_state; sends = []; marks = []; end = par.end } in
       let over : joined par.kids.items out.sends.items out.marks.items left ≡ joined [] old.sends.items old.marks.items all =
@@ -206,7 +220,8 @@ module _ {M G : Type 0} (kinds : Kinds M G) where
   sub-size false number p call request moment = refl
 
   -- where the next sub begins
-  pub next-number : (kids before : List (State M G)) (tree : State M G) (node number : ℕ) (is_open : Bool) (p : Plan M G) (call : ℕ) (request : Option (List ℕ)) (moment : ℕ) → kids ≡ before ++ tree ∷ [] → tree ≡ (sub_run kinds is_open number p call request moment).state
+  pub next-number : (kids before : List (State M G)) (tree : State M G) (node number : ℕ) (is_open : Bool) (p : Plan M G) (call : ℕ) (request : Option (List ℕ)) (moment : ℕ)
+      → kids ≡ before ++ tree ∷ [] → tree ≡ (sub_run kinds is_open number p call request moment).state
       → number ≡ node + (1 + size_of (states_of before)) → number + nodes p ≡ node + (1 + size_of (states_of kids))
   next-number kids before tree node number is_open p call request moment are is at =
       let n = ap (λ (ss : List (State M G)). size_of (states_of ss)) are ∙ sizes-push before tree in

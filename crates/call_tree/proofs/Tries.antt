@@ -66,7 +66,8 @@ module _ {M G : Type 0} (kinds : Kinds M G) where
   tries-next false over number p ps call request moment = refl
 
   -- the next try was started or waits, and joined those before it
-  pub tries-turn : (sel now : SelNode M G) (old out : Outbox) (number : ℕ) (p : Plan M G) (ps : Plans M G) (call : ℕ) (request asked : List ℕ) (ask : Option (List ℕ)) (going left goes : Bool) (end over up : Option End) (tree : State M G) (moment : ℕ) (all : Below M G)
+  pub tries-turn : (sel now : SelNode M G) (old out : Outbox) (number : ℕ) (p : Plan M G) (ps : Plans M G) (call : ℕ) (request asked : List ℕ) (ask : Option (List ℕ))
+      (going left goes : Bool) (end over up : Option End) (tree : State M G) (moment : ℕ) (all : Below M G)
       → ask ≡ ask_while going asked → asked ≡ request → left ≡ are_left ps → end ≡ end_of tree → over ≡ sel.end → (goes, up) ≡ tried going over left end
       → tree ≡ (sub_run kinds true number p call ask moment).state → IsGrown old out (sub_run kinds true number p call ask moment).sends (sub_run kinds true number p call ask moment).marks
       → now.kids.items ≡ sel.kids.items ++ tree ∷ [] → now.end ≡ up
@@ -78,7 +79,8 @@ module _ {M G : Type 0} (kinds : Kinds M G) where
       let run_is : sub_run kinds true number p call ask moment ≡ run = ap (λ r. sub_run kinds true number p call r moment) ask_is in
       let state_is : tree ≡ run.state = tree_is ∙ ap (λ (r : Run M G). r.state) run_is in
       let pair : (goes, now.end) ≡ tried going sel.end (are_left ps) (end_of run.state) =
-      ap (λ o. (goes, o)) now_end ∙ after ∙ ap (λ o. tried going o left end) over_is ∙ ap (λ b. tried going sel.end b end) left_is ∙ ap (λ e. tried going sel.end (are_left ps) e) (end_is ∙ ap end_of state_is) in
+      ap (λ o. (goes, o)) now_end ∙ after ∙ ap (λ o. tried going o left end) over_is ∙ ap (λ b. tried going sel.end b end) left_is
+      ∙ ap (λ e. tried going sel.end (are_left ps) e) (end_is ∙ ap end_of state_is) in
       let next = λ (r : Bool × Option End). tries_left kinds r.0 r.1 (number + nodes p) ps call request moment in
       let kids_are : now.kids.items ≡ sel.kids.items ++ run.state ∷ [] = kids ∙ ap (λ (s : State M G). sel.kids.items ++ s ∷ []) state_is in
       let sends_are : out.sends.items ≡ old.sends.items ++ run.sends = grown.sent ∙ ap (λ (r : Run M G). old.sends.items ++ r.sends) run_is in
@@ -91,13 +93,16 @@ module _ {M G : Type 0} (kinds : Kinds M G) where
       ∙ sym (ap (joined sel.kids.items old.sends.items old.marks.items) (tries-next going sel.end number p ps call request moment))
       ∙ before
 
-  none-left : (going : Bool) (over : Option End) (number call : ℕ) (request : List ℕ) (moment : ℕ) → (going ≡ true → over ≡ None) → tries_left kinds going over number last_plan call request moment ≡ record { states = last_state; sends = []; marks = []; end = over }
+  none-left : (going : Bool) (over : Option End) (number call : ℕ) (request : List ℕ) (moment : ℕ) → (going ≡ true → over ≡ None)
+      → tries_left kinds going over number last_plan call request moment ≡ record { states = last_state; sends = []; marks = []; end = over }
   none-left true over number call request moment h = ap (λ (o : Option End). let b : Below M G = record { states = last_state; sends = []; marks = []; end = o } in b) (sym (h refl))
   none-left false over number call request moment h = refl
 
   -- all tries have joined
-  pub tries-all : (sel : SelNode M G) (old out : Outbox) (going : Bool) (number : ℕ) (ps : Plans M G) (call : ℕ) (request : List ℕ) (moment : ℕ) (all : Below M G) → (going ≡ true → sel.end ≡ None) → ps ≡ last_plan
-      → joined sel.kids.items out.sends.items out.marks.items (tries_left kinds going sel.end number ps call request moment) ≡ joined [] old.sends.items old.marks.items all → AreStarted sel old out all
+  pub tries-all : (sel : SelNode M G) (old out : Outbox) (going : Bool) (number : ℕ) (ps : Plans M G) (call : ℕ) (request : List ℕ) (moment : ℕ) (all : Below M G)
+      → (going ≡ true → sel.end ≡ None) → ps ≡ last_plan
+      → joined sel.kids.items out.sends.items out.marks.items (tries_left kinds going sel.end number ps call request moment) ≡ joined [] old.sends.items old.marks.items all
+      → AreStarted sel old out all
   tries-all sel old out going number ps call request moment all open_ none h =
       let left : Below M G = record { states = last_state; sends = []; marks = []; end = sel.end } in
       let over : joined sel.kids.items out.sends.items out.marks.items left ≡ joined [] old.sends.items old.marks.items all =

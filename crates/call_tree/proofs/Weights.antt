@@ -11,7 +11,8 @@ use Rattle.rpc_model.specs.Versions.{nodes, nodes_of, possible_attempts, possibl
 use Rattle.rpc_model.specs.Parallel.{mapped, refused, Limits, limits, judged}
 use Rattle.rpc_model.specs.Selective.{next_try}
 use Rattle.rpc_model.specs.State.{State, waits, leaf_state, par_state, sel_state, States, last_state, state_then, Run, Below, end_of, size, size_of, waiting_states}
-use Rattle.rpc_model.specs.Machine.{par_started, sub_started, where_ended, try_ended, try_run, is_left, start_at, start_subs, start_tries, start_waiting, while_open, node_of, new_end, par_at, par_stepped, sel_at, sel_stepped, step_at, step_subs, step_tries}
+use Rattle.rpc_model.specs.Machine.{par_started, sub_started, where_ended, try_ended, try_run, is_left, start_at, start_subs, start_tries, start_waiting, while_open, node_of, new_end}
+use Rattle.rpc_model.specs.Machine.{par_at, par_stepped, sel_at, sel_stepped, step_at, step_subs, step_tries}
 use Rattle.call_tree.specs.Weights.{plan_weight, plans_weight, state_weight, states_weight, leaf_attempts, possible}
 
 module _ {M G : Type 0} (w : LeafChan → ℕ) (v : ℕ) (kinds : Kinds M G) where
@@ -32,7 +33,8 @@ module _ {M G : Type 0} (w : LeafChan → ℕ) (v : ℕ) (kinds : Kinds M G) whe
   weight-try n k run states next None h hs hn = both (state_weight w v run.state) (states_weight w v states) n k h hs
   weight-try n k run states next (Some end) h hs hn = weight-ended n k run states next (next_try (is_left states) end) h hs hn
 
-  weight-started : (plans : Plans M G) (below : Below M G) (o : Option End) → states_weight w v below.states ≡ plans_weight w v plans → states_weight w v (par_started plans below o).states ≡ plans_weight w v plans
+  weight-started : (plans : Plans M G) (below : Below M G) (o : Option End) → states_weight w v below.states ≡ plans_weight w v plans
+      → states_weight w v (par_started plans below o).states ≡ plans_weight w v plans
   weight-started plans below None h = h
   weight-started plans below (Some end) h = weight-wait plans
 
@@ -72,11 +74,13 @@ module _ {M G : Type 0} (w : LeafChan → ℕ) (v : ℕ) (kinds : Kinds M G) whe
         (weight-start node plan call request moment) (weight-wait plans)
         (weight-tries (node + nodes plan) plans call request moment)
 
-  weight-waiting : (node : ℕ) (states : States M G) (call : ℕ) (request : List ℕ) (moment : ℕ) → states_weight w v (start_waiting kinds node states call request moment).states ≡ states_weight w v states
+  weight-waiting : (node : ℕ) (states : States M G) (call : ℕ) (request : List ℕ) (moment : ℕ)
+      → states_weight w v (start_waiting kinds node states call request moment).states ≡ states_weight w v states
   weight-waiting node last_state call request moment = refl
   weight-waiting node (state_then (waits plan) states) call request moment =
       let run = start_at kinds node plan call request moment in
-      weight-try (plan_weight w v plan) (states_weight w v states) run states (start_waiting kinds (node + nodes plan) states call request moment) (end_of run.state) (weight-start node plan call request moment) refl
+      weight-try (plan_weight w v plan) (states_weight w v states) run states (start_waiting kinds (node + nodes plan) states call request moment) (end_of run.state)
+      (weight-start node plan call request moment) refl
       (weight-waiting (node + nodes plan) states call request moment)
   weight-waiting node (state_then (leaf_state chan q leaf) states) call request moment = refl
   weight-waiting node (state_then (par_state par below) states) call request moment = refl
@@ -113,7 +117,8 @@ module _ {M G : Type 0} (w : LeafChan → ℕ) (v : ℕ) (kinds : Kinds M G) whe
         weight-below (state_weight w v state + states_weight w v states) (nat_lt (node_of e) (node + size state)) _ _ (ap (λ n. n + states_weight w v states) (weight-step node state call e moment))
         (ap (λ n. state_weight w v state + n) (weight-subs-step (node + size state) states call e moment))
 
-    weight-tries-step : (node : ℕ) (states : States M G) (call : ℕ) (e : Event) (moment : ℕ) (request : List ℕ) → states_weight w v (step_tries kinds node states call e moment request).states ≡ states_weight w v states
+    weight-tries-step : (node : ℕ) (states : States M G) (call : ℕ) (e : Event) (moment : ℕ) (request : List ℕ)
+        → states_weight w v (step_tries kinds node states call e moment request).states ≡ states_weight w v states
     weight-tries-step node last_state call e moment request = refl
     weight-tries-step node (state_then state states) call e moment request =
         let run = step_at kinds node state call e moment in

@@ -33,11 +33,13 @@ module _ {M G : Type 0} (chans : List (Chan M G)) (number : ℕ) (sound : AreSou
     unfolding IsPlanOf
     leaf-built leaf at = by (chan.Leaf leaf) (Some (leaf_plan leaf)) at refl
 
-    pub par-built : (par : ParChan M G) (plans : Plans M G) → slice_get chans number ≡ Some (chan.Par par) → ArePlansOf chans call (subs_of par) plans → IsPlanOf chans number call (par_plan (rule_of par) plans)
+    pub par-built : (par : ParChan M G) (plans : Plans M G) → slice_get chans number ≡ Some (chan.Par par) → ArePlansOf chans call (subs_of par) plans
+        → IsPlanOf chans number call (par_plan (rule_of par) plans)
     unfolding IsPlanOf ArePlansOf
     par-built par plans at is = by (chan.Par par) (Some (par_plan (rule_of par) plans)) at (ap (par_over (rule_of par)) is)
 
-    pub sel-built : (sel : SelChan) (plans : Plans M G) → slice_get chans number ≡ Some (chan.Sel sel) → ArePlansOf chans call (tries sel call) plans → IsPlanOf chans number call (sel_plan sel.timeout plans)
+    pub sel-built : (sel : SelChan) (plans : Plans M G) → slice_get chans number ≡ Some (chan.Sel sel) → ArePlansOf chans call (tries sel call) plans
+        → IsPlanOf chans number call (sel_plan sel.timeout plans)
     unfolding IsPlanOf ArePlansOf
     sel-built sel plans at is = by (chan.Sel sel) (Some (sel_plan sel.timeout plans)) at (ap (sel_over sel.timeout) is)
 
@@ -52,7 +54,8 @@ module _ {M G : Type 0} (chans : List (Chan M G)) (call : ℕ) (all : List ℕ) 
   unfolding AreLeft
   left-all = refl
 
-  pub left-next : (built : List (Plan M G)) (number : ℕ) (numbers : List ℕ) (p : Plan M G) → AreLeft chans call all built (number ∷ numbers) → IsPlanOf chans number call p → AreLeft chans call all (built ++ p ∷ []) numbers
+  pub left-next : (built : List (Plan M G)) (number : ℕ) (numbers : List ℕ) (p : Plan M G) → AreLeft chans call all built (number ∷ numbers) → IsPlanOf chans number call p
+      → AreLeft chans call all (built ++ p ∷ []) numbers
   unfolding AreLeft IsPlanOf
   left-next built number numbers p h is =
       with_push built p (plans_of (λ s. plan chans s call) numbers) ∙ ap (λ o. with_plans built (and_plan o (plans_of (λ s. plan chans s call) numbers))) (sym is) ∙ h

@@ -29,7 +29,8 @@ module _ {M G X : Type 0} (chans : List (Chan M G)) (at : ℕ → ℕ → X) (ne
   stable (suc b) s zero less more = absurd (omega (arith, more))
   stable (suc b) s (suc k) less more =
       grows k s
-      ∙ looks s (at k) (at s) (slice_get chans s) (sound-at 0 chans s s (omega arith) sound) (λ t before. stable b t k (omega (arith, before, less)) (omega (arith, before, more)) ∙ sym (stable b t s (omega (arith, before, less)) before))
+      ∙ looks s (at k) (at s) (slice_get chans s) (sound-at 0 chans s s (omega arith) sound)
+      (λ t before. stable b t k (omega (arith, before, less)) (omega (arith, before, more)) ∙ sym (stable b t s (omega (arith, before, less)) before))
       ∙ sym (grows s s)
 
   -- What it is of a channel is what it is of the channel by its subs.

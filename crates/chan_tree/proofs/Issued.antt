@@ -1,5 +1,6 @@
 -- The attempts that a plan has versions for are those that its leaves may issue.
-use Rattle.std.proofs.Common.{◌≡◌, ℕ, zero, suc, ◌+◌, ◌<◌, ◌≤◌, ◌==◌, ◌&&◌, ◌||◌, not, Bool, true, false, cond, nat_le, nat_lt, List, [], ◌∷◌, ◌++◌, length, position, is_some, Option, Some, None, arith, refl, ap, ◌∙◌}
+use Rattle.std.proofs.Common.{◌≡◌, ℕ, zero, suc, ◌+◌, ◌<◌, ◌≤◌, ◌==◌, ◌&&◌, ◌||◌, not, Bool, true, false, cond, nat_le, nat_lt, List, [], ◌∷◌, ◌++◌, length, position, is_some, Option, Some}
+use Rattle.std.proofs.Common.{None, arith, refl, ap, ◌∙◌}
 use Rattle.std.specs.List.{list_any, prefix_len}
 use Rattle.std.proofs.lemmas.Bool.Decides.{nat_tests}
 use Rattle.rpc_model.specs.declared.chan.LeafChan.{LeafChan}
@@ -31,11 +32,14 @@ any-append p (x ∷ xs) ys = by (p x) (any-append p xs ys)
     by false h = h
 
 -- The attempts of a leaf.
-any-attempt : (wanted attempt node from count : ℕ) → list_any (is_same (Attempt wanted attempt)) (leaf_versions node from count) ≡ ((wanted == node) && (nat_le from attempt && nat_lt attempt (from + count)))
+any-attempt : (wanted attempt node from count : ℕ)
+    → list_any (is_same (Attempt wanted attempt)) (leaf_versions node from count) ≡ ((wanted == node) && (nat_le from attempt && nat_lt attempt (from + count)))
 any-attempt wanted attempt node from zero = grind (arith, nat_tests)
-any-attempt wanted attempt node from (suc count) = by (wanted == node) (list_any (is_same (Attempt wanted attempt)) (leaf_versions node (from + 1) count)) (any-attempt wanted attempt node (from + 1) count)
+any-attempt wanted attempt node from (suc count) =
+    by (wanted == node) (list_any (is_same (Attempt wanted attempt)) (leaf_versions node (from + 1) count)) (any-attempt wanted attempt node (from + 1) count)
   where
-    by : (b rest : Bool) → rest ≡ (b && (nat_le (from + 1) attempt && nat_lt attempt (from + 1 + count))) → ((b && (attempt == from)) || rest) ≡ (b && (nat_le from attempt && nat_lt attempt (from + suc count)))
+    by : (b rest : Bool) → rest ≡ (b && (nat_le (from + 1) attempt && nat_lt attempt (from + 1 + count)))
+        → ((b && (attempt == from)) || rest) ≡ (b && (nat_le from attempt && nat_lt attempt (from + suc count)))
     by true rest h = rw h (grind (arith, nat_tests))
     by false rest h = h
 
@@ -61,7 +65,8 @@ either-within None b wanted end ha hb = hb
 either-within (Some leaf) b wanted end ha hb = ha
 
 -- Those of one plan, and then of others behind it.
-one-then : (a b : Option LeafChan) (x y : Bool) (wanted attempt end : ℕ) → x ≡ may_issue (retry_of a) attempt → y ≡ may_issue (retry_of b) attempt → IsWithin a wanted end → (wanted < end → y ≡ false) → (x || y) ≡ may_issue (retry_of (or_leaf a b)) attempt
+one-then : (a b : Option LeafChan) (x y : Bool) (wanted attempt end : ℕ) → x ≡ may_issue (retry_of a) attempt → y ≡ may_issue (retry_of b) attempt → IsWithin a wanted end
+    → (wanted < end → y ≡ false) → (x || y) ≡ may_issue (retry_of (or_leaf a b)) attempt
 one-then None b x y wanted attempt end hx hy within none = rw hx hy
 one-then (Some leaf) b x y wanted attempt end hx hy within none = rw (none within) (or-false x ∙ hx)
   where
@@ -90,8 +95,10 @@ module _ {M G : Type 0} where
         by : (b : Bool) → (node == wanted) ≡ b → IsWithin (cond b (Some leaf) None) wanted (node + 1)
         by true e = grind (arith, nat_tests, e)
         by false e = tt
-    leaf-within wanted node (par_plan rule ps) = later-end (leaf_at_of (node + 1) ps wanted) wanted (node + 1 + nodes_of ps) (node + (1 + nodes_of ps)) (omega arith) (leaves-within wanted (node + 1) ps)
-    leaf-within wanted node (sel_plan timeout ps) = later-end (leaf_at_of (node + 1) ps wanted) wanted (node + 1 + nodes_of ps) (node + (1 + nodes_of ps)) (omega arith) (leaves-within wanted (node + 1) ps)
+    leaf-within wanted node (par_plan rule ps) =
+        later-end (leaf_at_of (node + 1) ps wanted) wanted (node + 1 + nodes_of ps) (node + (1 + nodes_of ps)) (omega arith) (leaves-within wanted (node + 1) ps)
+    leaf-within wanted node (sel_plan timeout ps) =
+        later-end (leaf_at_of (node + 1) ps wanted) wanted (node + 1 + nodes_of ps) (node + (1 + nodes_of ps)) (omega arith) (leaves-within wanted (node + 1) ps)
 
     leaves-within : (wanted node : ℕ) (ps : Plans M G) → IsWithin (leaf_at_of node ps wanted) wanted (node + nodes_of ps)
     leaves-within wanted node last_plan = tt
@@ -114,8 +121,10 @@ module _ {M G : Type 0} where
     all-attempts-are wanted attempt node last_plan = refl
     all-attempts-are wanted attempt node (plan_then p ps) =
         any-append (is_same (Attempt wanted attempt)) (attempt_versions node p) (attempt_versions_of (node + nodes p) ps)
-        ∙ one-then (leaf_at node p wanted) (leaf_at_of (node + nodes p) ps wanted) (list_any (is_same (Attempt wanted attempt)) (attempt_versions node p)) (list_any (is_same (Attempt wanted attempt)) (attempt_versions_of (node + nodes p) ps)) wanted attempt
-        (node + nodes p) (attempts-are wanted attempt node p) (all-attempts-are wanted attempt (node + nodes p) ps) (leaf-within wanted node p) (λ less. earlier wanted attempt (node + nodes p) ps less)
+        ∙ one-then (leaf_at node p wanted) (leaf_at_of (node + nodes p) ps wanted) (list_any (is_same (Attempt wanted attempt)) (attempt_versions node p))
+        (list_any (is_same (Attempt wanted attempt)) (attempt_versions_of (node + nodes p) ps)) wanted attempt
+        (node + nodes p) (attempts-are wanted attempt node p) (all-attempts-are wanted attempt (node + nodes p) ps) (leaf-within wanted node p)
+        (λ less. earlier wanted attempt (node + nodes p) ps less)
 
   pub issued : (p : Plan M G) (node attempt : ℕ) → is_some (offset_of p (Attempt node attempt)) ≡ may_issue (retry_of (leaf_at 0 p node)) attempt
   unfolding offset_of versions

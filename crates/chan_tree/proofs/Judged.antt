@@ -1,5 +1,6 @@
 -- A channel's measure, and what is judged by it.
-use Rattle.std.proofs.Common.{◌≡◌, ℕ, zero, suc, ◌+◌, ◌<◌, ◌≤◌, min, ◌⊎◌, inl, inr, Bool, true, false, nat_lt, List, [], ◌∷◌, ◌++◌, length, slice_get, Option, Some, None, arith, refl, ap, sym, ◌∙◌, subst, length-append}
+use Rattle.std.proofs.Common.{◌≡◌, ℕ, zero, suc, ◌+◌, ◌<◌, ◌≤◌, min, ◌⊎◌, inl, inr, Bool, true, false, nat_lt, List, [], ◌∷◌, ◌++◌, length, slice_get, Option, Some, None, arith, refl, ap}
+use Rattle.std.proofs.Common.{sym, ◌∙◌, subst, length-append}
 use Rattle.std.proofs.lemmas.Bool.Decides.{nat_tests}
 use Rattle.rpc_model.specs.declared.chan.Chan.{Chan}
 use Rattle.rpc_model.specs.declared.chan.LeafChan.{LeafChan}
@@ -75,7 +76,8 @@ module _ {M G : Type 0} (chans : List (Chan M G)) (call : ℕ) where
   at-measures zero s less = absurd (omega (arith, less))
   at-measures (suc n) s less = by s n less (length-measures n) (before_or_at s n (omega (arith, less))) (λ h. at-measures n s h)
     where
-      by : (s n : ℕ) → s < suc n → length (measures chans call n) ≡ n → (s < n) ⊎ (s ≡ n) → (s < n → slice_get (measures chans call n) s ≡ Some (measure_at chans call s)) → slice_get (measures chans call n ++ measure_at chans call n ∷ []) s ≡ Some (measure_at chans call s)
+      by : (s n : ℕ) → s < suc n → length (measures chans call n) ≡ n → (s < n) ⊎ (s ≡ n) → (s < n → slice_get (measures chans call n) s ≡ Some (measure_at chans call s))
+          → slice_get (measures chans call n ++ measure_at chans call n ∷ []) s ≡ Some (measure_at chans call s)
       by s n less l (inl before) again = get-before (measures chans call n) (measure_at chans call n ∷ []) s (omega (arith, before, l)) ∙ again before
       by s n less l (inr at) again = get-last (measures chans call n) (measure_at chans call n) s (omega (arith, at, l)) ∙ ap (λ k. Some (measure_at chans call k)) (sym at)
 
@@ -84,15 +86,19 @@ module _ {M G : Type 0} (chans : List (Chan M G)) (call : ℕ) where
 
   module _ (sound : AreSound 0 chans) where
     -- A channel that is measured from the measures of those before it.
-    pub measured : (n : ℕ) (ms : List Measure) (c : Chan M G) (m : Measure) → ms ≡ measures chans call n → slice_get chans n ≡ Some c → m.depth ≡ min 9 (chan_depth (depth_in ms) (Some c)) → m.missing ≡ chan_missing (missing_in ms) call (Some c)
+    pub measured : (n : ℕ) (ms : List Measure) (c : Chan M G) (m : Measure) → ms ≡ measures chans call n → slice_get chans n ≡ Some c → m.depth ≡ min 9 (chan_depth (depth_in ms) (Some c))
+        → m.missing ≡ chan_missing (missing_in ms) call (Some c)
         → m.width ≡ min 1025 (chan_width (width_in ms) call (Some c)) → IsMeasureOf chans call n m
     measured n ms c m before at d e w =
         let fit = subst (SoundIf n) at (sound-at 0 chans n n (omega arith) sound) in
         let there : (s : ℕ) → s < n → slice_get ms s ≡ Some (measure_at chans call s) = λ s less. ap (λ xs. slice_get xs s) before ∙ at-measures n s less in
         same-measure m (measure_at chans call n)
-        (d ∙ ap (min 9) (depth-looks n (depth_in ms) (λ s. min 9 (depth chans s)) (Some c) fit (λ s less. ap depth_or (there s less))) ∙ depth-min (depth chans) (Some c) ∙ ap (min 9) (sym (depth-is chans n sound ∙ ap (chan_depth (depth chans)) at)))
-        (e ∙ missing-looks call n (missing_in ms) (λ s. missing_part chans s call) (Some c) fit (λ s less. ap missing_or (there s less)) ∙ sym (missing-is chans call n sound ∙ ap (chan_missing (λ s. missing_part chans s call) call) at))
-        (w ∙ ap (min 1025) (width-looks call n (width_in ms) (λ s. min 1025 (width_of chans call s)) (Some c) fit (λ s less. ap width_or (there s less))) ∙ width-min (width_of chans call) call (Some c)
+        (d ∙ ap (min 9) (depth-looks n (depth_in ms) (λ s. min 9 (depth chans s)) (Some c) fit (λ s less. ap depth_or (there s less))) ∙ depth-min (depth chans) (Some c)
+        ∙ ap (min 9) (sym (depth-is chans n sound ∙ ap (chan_depth (depth chans)) at)))
+        (e ∙ missing-looks call n (missing_in ms) (λ s. missing_part chans s call) (Some c) fit (λ s less. ap missing_or (there s less))
+        ∙ sym (missing-is chans call n sound ∙ ap (chan_missing (λ s. missing_part chans s call) call) at))
+        (w ∙ ap (min 1025) (width-looks call n (width_in ms) (λ s. min 1025 (width_of chans call s)) (Some c) fit (λ s less. ap width_or (there s less)))
+        ∙ width-min (width_of chans call) call (Some c)
         ∙ ap (min 1025) (sym (width_of-is chans call n sound ∙ ap (chan_width (width_of chans call) call) at)))
 
     module _ (number : ℕ) (there : number < length chans) where
@@ -124,7 +130,8 @@ module _ {M G : Type 0} (chans : List (Chan M G)) (call : ℕ) where
           record { shallow = omega (arith, d, shallow); no_part_missing = sym (ap (λ (x : Measure). x.missing) is) ∙ none; planned = planned-is q planned; narrow = narrow m q is few planned }
 
 -- A plain channel is measured by itself.
-pub leaf-measured : {M G : Type 0} (chans : List (Chan M G)) (number call : ℕ) (leaf : LeafChan) (m : Measure) → slice_get chans number ≡ Some (chan.Leaf leaf) → m.depth ≡ 1 → m.missing ≡ None → m.width ≡ min 1025 (leaf.retry + 2) → m ≡ measure_at chans call number
+pub leaf-measured : {M G : Type 0} (chans : List (Chan M G)) (number call : ℕ) (leaf : LeafChan) (m : Measure) → slice_get chans number ≡ Some (chan.Leaf leaf) → m.depth ≡ 1
+    → m.missing ≡ None → m.width ≡ min 1025 (leaf.retry + 2) → m ≡ measure_at chans call number
 leaf-measured chans number call leaf m at d e w =
     same-measure m (measure_at chans call number) (rw at d) (rw at e) (rw at w)
 

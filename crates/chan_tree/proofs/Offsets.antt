@@ -18,7 +18,8 @@ get-node first (suc count) ys (suc k) less = get-node (first + 1) count ys k (om
 
 get-past : (first count : ℕ) (ys : List Meaning) (o : ℕ) → slice_get (node_versions first count ++ ys) (count + o) ≡ slice_get ys o
 get-past first zero ys o = ap (slice_get ys) (let same : 0 + o ≡ o = omega arith in same)
-get-past first (suc count) ys o = subst (λ i. slice_get (node_versions first (suc count) ++ ys) i ≡ slice_get ys o) (let same : suc (count + o) ≡ suc count + o = omega arith in same) (get-past (first + 1) count ys o)
+get-past first (suc count) ys o =
+    subst (λ i. slice_get (node_versions first (suc count) ++ ys) i ≡ slice_get ys o) (let same : suc (count + o) ≡ suc count + o = omega arith in same) (get-past (first + 1) count ys o)
 
 one-past : (count : ℕ) (o : Option ℕ) → option_map suc (option_map (λ i. count + i) o) ≡ option_map (λ i. suc count + i) o
 one-past count None = refl
@@ -28,7 +29,8 @@ none-past : (o : Option ℕ) → o ≡ option_map (λ i. 0 + i) o
 none-past None = refl
 none-past (Some i) = ap Some (let same : i ≡ 0 + i = omega arith in same)
 
-position-past : (node attempt first count : ℕ) (ys : List Meaning) → position (is_same (Attempt node attempt)) (node_versions first count ++ ys) ≡ option_map (λ i. count + i) (position (is_same (Attempt node attempt)) ys)
+position-past : (node attempt first count : ℕ) (ys : List Meaning)
+    → position (is_same (Attempt node attempt)) (node_versions first count ++ ys) ≡ option_map (λ i. count + i) (position (is_same (Attempt node attempt)) ys)
 position-past node attempt first zero ys = none-past (position (is_same (Attempt node attempt)) ys)
 position-past node attempt first (suc count) ys =
     position-cons (is_same (Attempt node attempt)) (Node first) (node_versions (first + 1) count ++ ys) ∙ ap (option_map suc) (position-past node attempt (first + 1) count ys)
@@ -53,7 +55,8 @@ module _ {M G : Type 0} where
       subst (λ i. slice_get (node_versions 0 (nodes p) ++ attempt_versions 0 p) i ≡ slice_get (attempts_by (leaf_nodes 0 p) (leaf_counts p)) (o - nodes p)) (sym split)
       (get-past 0 (nodes p) (attempt_versions 0 p) (o - nodes p) ∙ ap (λ xs. slice_get xs (o - nodes p)) (attempts-are 0 p))
 
-  pub attempt_offset : (p : Plan M G) (node attempt : ℕ) → offset_of p (Attempt node attempt) ≡ option_map (λ i. nodes p + i) (position (is_same (Attempt node attempt)) (attempts_by (leaf_nodes 0 p) (leaf_counts p)))
+  pub attempt_offset : (p : Plan M G) (node attempt : ℕ)
+      → offset_of p (Attempt node attempt) ≡ option_map (λ i. nodes p + i) (position (is_same (Attempt node attempt)) (attempts_by (leaf_nodes 0 p) (leaf_counts p)))
   unfolding offset_of versions
   attempt_offset p node attempt =
       position-past node attempt 0 (nodes p) (attempt_versions 0 p) ∙ ap (λ xs. option_map (λ i. nodes p + i) (position (is_same (Attempt node attempt)) xs)) (attempts-are 0 p)

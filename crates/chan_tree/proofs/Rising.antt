@@ -17,7 +17,8 @@ behind-some xs to (suc i) some first above = omega arith
 pub last-at : (xs : List ℕ) (to i : ℕ) → IsRising xs → i < length xs → get_or xs i 0 ≡ to → IsLastUpTo xs to i
 last-at xs to i rise place is = record { place = place; low = omega (arith, is); high = λ k before most. let r = rise i k before most in omega (arith, r, is) }
 
-pub last-behind : (xs : List ℕ) (to i : ℕ) → 0 < length xs → get_or xs 0 0 ≤ to → i ≤ length xs → ((k : ℕ) → k < i → get_or xs k 0 < to) → ((k : ℕ) → i ≤ k → k < length xs → to < get_or xs k 0) → IsLastUpTo xs to (i - 1)
+pub last-behind : (xs : List ℕ) (to i : ℕ) → 0 < length xs → get_or xs 0 0 ≤ to → i ≤ length xs → ((k : ℕ) → k < i → get_or xs k 0 < to)
+    → ((k : ℕ) → i ≤ k → k < length xs → to < get_or xs k 0) → IsLastUpTo xs to (i - 1)
 last-behind xs to i some first most below above =
     let one = behind-some xs to i some first above in
     record {

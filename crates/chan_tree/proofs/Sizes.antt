@@ -1,5 +1,6 @@
 -- The size of a plan, and its leaves, from those of the channels below.
-use Rattle.std.proofs.Common.{◌≡◌, ℕ, zero, suc, ◌+◌, ◌*◌, ◌<◌, ◌≤◌, ◌==◌, ◌&&◌, Bool, true, false, cond, nat_le, nat_lt, min, is_some, List, [], ◌∷◌, length, Option, Some, None, arith, refl, ap, sym, ◌∙◌, subst, slice_get}
+use Rattle.std.proofs.Common.{◌≡◌, ℕ, zero, suc, ◌+◌, ◌*◌, ◌<◌, ◌≤◌, ◌==◌, ◌&&◌, Bool, true, false, cond, nat_le, nat_lt, min, is_some, List, [], ◌∷◌, length, Option, Some, None, arith}
+use Rattle.std.proofs.Common.{refl, ap, sym, ◌∙◌, subst, slice_get}
 use Rattle.std.proofs.lemmas.Bool.Decides.{nat_tests}
 use Rattle.rpc_model.specs.declared.chan.Chan.{Chan}
 use Rattle.rpc_model.specs.declared.chan.LeafChan.{LeafChan}
@@ -12,7 +13,8 @@ use Rattle.rpc_model.specs.Versions.{nodes, nodes_of, possible_attempts, possibl
 use Rattle.chan_tree.specs.Sound.{AreBefore, AreSound}
 use Rattle.chan_tree.specs.Counting.{total}
 use Rattle.chan_tree.specs.declared.walking.Size.{Size}
-use Rattle.chan_tree.specs.Sizes.{retry_of, part_retry, IsSize, nodes_if, attempts_if, leaf_if, leaf_among, nodes_at, attempts_at, IsSizeOf, IsSizeOver, IsSizeSoFar, node_behind, retry_in, retry_among}
+use Rattle.chan_tree.specs.Sizes.{retry_of, part_retry, IsSize, nodes_if, attempts_if, leaf_if, leaf_among, nodes_at, attempts_at, IsSizeOf, IsSizeOver, IsSizeSoFar, node_behind, retry_in}
+use Rattle.chan_tree.specs.Sizes.{retry_among}
 use Rattle.chan_tree.proofs.Fuel.{SoundIf, sound-at, sel-before, plan-is}
 use Rattle.chan_tree.proofs.Widths.{plan-there}
 
@@ -43,16 +45,19 @@ module _ {M G : Type 0} where
   and-of (Some p) None n a h hs = absurd hs
   and-of (Some p) (Some ps) n a h hs = (ap (λ m. nodes p + m) hs.0, ap (λ m. possible_attempts p + m) hs.1)
 
-  all-of : (f : ℕ → Option (Plan M G)) (n : ℕ) (subs : List ℕ) → AreBefore n subs → ((s : ℕ) → s < n → IsThere (f s)) → AreOf (plans_of f subs) (total (λ s. nodes_if (f s)) subs) (total (λ s. attempts_if (f s)) subs)
+  all-of : (f : ℕ → Option (Plan M G)) (n : ℕ) (subs : List ℕ) → AreBefore n subs → ((s : ℕ) → s < n → IsThere (f s))
+      → AreOf (plans_of f subs) (total (λ s. nodes_if (f s)) subs) (total (λ s. attempts_if (f s)) subs)
   all-of f n [] before h = (refl, refl)
   all-of f n (s ∷ subs) before h = and-of (f s) (plans_of f subs) (total (λ s. nodes_if (f s)) subs) (total (λ s. attempts_if (f s)) subs) (h s before.0) (all-of f n subs before.1 h)
 
-  and-leaf : (one : Option (Plan M G)) (rest : Option (Plans M G)) (node wanted : ℕ) (leaf : Option LeafChan) → IsThere one → HasLeaf rest (node + nodes_if one) wanted leaf → HasLeaf (and_plan one rest) node wanted (or_leaf (leaf_if node one wanted) leaf)
+  and-leaf : (one : Option (Plan M G)) (rest : Option (Plans M G)) (node wanted : ℕ) (leaf : Option LeafChan) → IsThere one → HasLeaf rest (node + nodes_if one) wanted leaf
+      → HasLeaf (and_plan one rest) node wanted (or_leaf (leaf_if node one wanted) leaf)
   and-leaf None rest node wanted leaf h hs = absurd h
   and-leaf (Some p) None node wanted leaf h hs = absurd hs
   and-leaf (Some p) (Some ps) node wanted leaf h hs = ap (or_leaf (leaf_at node p wanted)) hs
 
-  all-leaves : (f : ℕ → Option (Plan M G)) (n : ℕ) (node : ℕ) (subs : List ℕ) (wanted : ℕ) → AreBefore n subs → ((s : ℕ) → s < n → IsThere (f s)) → HasLeaf (plans_of f subs) node wanted (leaf_among f node subs wanted)
+  all-leaves : (f : ℕ → Option (Plan M G)) (n : ℕ) (node : ℕ) (subs : List ℕ) (wanted : ℕ) → AreBefore n subs → ((s : ℕ) → s < n → IsThere (f s))
+      → HasLeaf (plans_of f subs) node wanted (leaf_among f node subs wanted)
   all-leaves f n node [] wanted before h = refl
   all-leaves f n node (s ∷ subs) wanted before h =
       and-leaf (f s) (plans_of f subs) node wanted (leaf_among f (node + nodes_if (f s)) subs wanted) (h s before.0) (all-leaves f n (node + nodes_if (f s)) subs wanted before.1 h)
@@ -74,7 +79,8 @@ module _ {M G : Type 0} where
       by : (b : Bool) → (node == wanted) ≡ b → retry_of (leaf_at_of (node + 1) (part_plans part (first + 1) count) wanted) ≡ part_retry (node + 1) count part.retry wanted
           → retry_of (or_leaf (cond b (Some (part_leaf part first)) None) (leaf_at_of (node + 1) (part_plans part (first + 1) count) wanted)) ≡ part_retry node (suc count) part.retry wanted
       by true e h = let yes : (nat_le node wanted && nat_lt wanted (node + suc count)) ≡ true = grind (arith, nat_tests, e) in rw yes refl
-      by false e h = h ∙ (let same : (nat_le (node + 1) wanted && nat_lt wanted (node + 1 + count)) ≡ (nat_le node wanted && nat_lt wanted (node + suc count)) = grind (arith, nat_tests, e) in rw same refl)
+      by false e h =
+          h ∙ (let same : (nat_le (node + 1) wanted && nat_lt wanted (node + 1 + count)) ≡ (nat_le node wanted && nat_lt wanted (node + suc count)) = grind (arith, nat_tests, e) in rw same refl)
 
 or-none : (a b : Option LeafChan) → None ≡ retry_of a → retry_of (or_leaf a b) ≡ retry_of b
 or-none None b h = refl
@@ -126,7 +132,8 @@ module _ {M G : Type 0} (chans : List (Chan M G)) (sound : AreSound 0 chans) (ca
     par-is par at =
         let f : ℕ → Option (Plan M G) = λ s. plan chans s call in
         subst (λ o. IsOver o (subs_of par)) (sym (over (chan.Par par) at))
-        (par-over par (plans_of f (subs_of par)) (all-of f number (subs_of par) (fits (chan.Par par) at) below) (λ node wanted. all-leaves f number node (subs_of par) wanted (fits (chan.Par par) at) below))
+        (par-over par (plans_of f (subs_of par)) (all-of f number (subs_of par) (fits (chan.Par par) at) below)
+        (λ node wanted. all-leaves f number node (subs_of par) wanted (fits (chan.Par par) at) below))
 
     pub sel-is : (sel : SelChan) → slice_get chans number ≡ Some (chan.Sel sel) → IsOver (plan chans number call) (tries sel call)
     sel-is sel at =
@@ -141,25 +148,31 @@ module _ {M G : Type 0} (chans : List (Chan M G)) (sound : AreSound 0 chans) (ca
     unfolding IsSizeOf
     leaf-size leaf size at h = rw (over (chan.Leaf leaf) at) h
 
-    pub part-size : (part : PartChan M G) (size : Option Size) → slice_get chans number ≡ Some (chan.Part part) → IsSize size (part.parts + 1) (part.parts * (part.retry + 1)) → IsSizeOf chans number call size
+    pub part-size : (part : PartChan M G) (size : Option Size) → slice_get chans number ≡ Some (chan.Part part) → IsSize size (part.parts + 1) (part.parts * (part.retry + 1))
+        → IsSizeOf chans number call size
     unfolding IsSizeOf
     part-size part size at h =
         let n = part-nodes part 0 part.parts in
         let a = part-attempts part 0 part.parts in
         rw (over (chan.Part part) at) (by size h n a)
       where
-        by : (size : Option Size) → IsSize size (part.parts + 1) (part.parts * (part.retry + 1)) → nodes_of (part_plans part 0 part.parts) ≡ part.parts → possible_attempts_of (part_plans part 0 part.parts) ≡ part.parts * (part.retry + 1)
+        by : (size : Option Size) → IsSize size (part.parts + 1) (part.parts * (part.retry + 1)) → nodes_of (part_plans part 0 part.parts) ≡ part.parts
+            → possible_attempts_of (part_plans part 0 part.parts) ≡ part.parts * (part.retry + 1)
             → IsSize size (1 + nodes_of (part_plans part 0 part.parts)) (possible_attempts_of (part_plans part 0 part.parts))
         by None h n a = omega (arith, h, n, a)
         by (Some s) h n a = (omega (arith, h.0, n), omega (arith, h.1, a), omega (arith, h.2, n, a))
 
     pub par-size : (par : ParChan M G) (size : Option Size) → slice_get chans number ≡ Some (chan.Par par) → IsSizeOver chans (subs_of par) call size → IsSizeOf chans number call size
     unfolding IsSizeOf IsSizeOver
-    par-size par size at h = let is = par-is par at in subst (λ n. IsSize size n (attempts_at chans call number)) (sym is.size.0) (subst (λ a. IsSize size (1 + total (nodes_at chans call) (subs_of par)) a) (sym is.size.1) h)
+    par-size par size at h =
+        let is = par-is par at in subst (λ n. IsSize size n (attempts_at chans call number)) (sym is.size.0)
+        (subst (λ a. IsSize size (1 + total (nodes_at chans call) (subs_of par)) a) (sym is.size.1) h)
 
     pub sel-size : (sel : SelChan) (size : Option Size) → slice_get chans number ≡ Some (chan.Sel sel) → IsSizeOver chans (tries sel call) call size → IsSizeOf chans number call size
     unfolding IsSizeOf IsSizeOver
-    sel-size sel size at h = let is = sel-is sel at in subst (λ n. IsSize size n (attempts_at chans call number)) (sym is.size.0) (subst (λ a. IsSize size (1 + total (nodes_at chans call) (tries sel call)) a) (sym is.size.1) h)
+    sel-size sel size at h =
+        let is = sel-is sel at in subst (λ n. IsSize size n (attempts_at chans call number)) (sym is.size.0)
+        (subst (λ a. IsSize size (1 + total (nodes_at chans call) (tries sel call)) a) (sym is.size.1) h)
 
     -- ---- one node after another
 
@@ -172,11 +185,13 @@ module _ {M G : Type 0} (chans : List (Chan M G)) (sound : AreSound 0 chans) (ca
       unfolding IsSizeSoFar IsSizeOf IsSizeOver
       size-wide size s rest h wide = omega (arith, h.0, h.1, wide)
 
-      pub size-full : (size more : Size) (s : ℕ) (rest : List ℕ) → IsSizeSoFar chans all call size (s ∷ rest) → IsSizeOf chans s call (Some more) → IsSize None (size.nodes + more.nodes) (size.attempts + more.attempts) → IsSizeOver chans all call None
+      pub size-full : (size more : Size) (s : ℕ) (rest : List ℕ) → IsSizeSoFar chans all call size (s ∷ rest) → IsSizeOf chans s call (Some more)
+          → IsSize None (size.nodes + more.nodes) (size.attempts + more.attempts) → IsSizeOver chans all call None
       unfolding IsSizeSoFar IsSizeOf IsSizeOver
       size-full size more s rest h one wide = omega (arith, h.0, h.1, one.0, one.1, wide)
 
-      pub size-more : (size more sum : Size) (s : ℕ) (rest : List ℕ) → IsSizeSoFar chans all call size (s ∷ rest) → IsSizeOf chans s call (Some more) → IsSize (Some sum) (size.nodes + more.nodes) (size.attempts + more.attempts) → IsSizeSoFar chans all call sum rest
+      pub size-more : (size more sum : Size) (s : ℕ) (rest : List ℕ) → IsSizeSoFar chans all call size (s ∷ rest) → IsSizeOf chans s call (Some more)
+          → IsSize (Some sum) (size.nodes + more.nodes) (size.attempts + more.attempts) → IsSizeSoFar chans all call sum rest
       unfolding IsSizeSoFar IsSizeOf
       size-more size more sum s rest h one is = (omega (arith, h.0, one.0, is.0), omega (arith, h.1, one.1, is.1), omega (arith, is.0, is.1, is.2))
 
@@ -195,12 +210,14 @@ size-one chans number call more h = omega (arith, h.0, h.1, h.2)
 -- ---- a leaf, one plan after another
 
 module _ {M G : Type 0} (chans : List (Chan M G)) (call : ℕ) where
-  pub retry-found : (s : ℕ) (rest : List ℕ) (node wanted : ℕ) (found : Option ℕ) → found ≡ retry_in chans s call node wanted → is_some found ≡ true → found ≡ retry_among chans (s ∷ rest) call node wanted
+  pub retry-found : (s : ℕ) (rest : List ℕ) (node wanted : ℕ) (found : Option ℕ) → found ≡ retry_in chans s call node wanted → is_some found ≡ true
+      → found ≡ retry_among chans (s ∷ rest) call node wanted
   unfolding retry_in retry_among
   retry-found s rest node wanted found e some =
       e ∙ sym (or-some (leaf_if node (plan chans s call) wanted) (leaf_among (λ t. plan chans t call) (node + nodes_at chans call s) rest wanted) (ap is_some (sym e) ∙ some))
 
-  pub retry-next : (s : ℕ) (rest : List ℕ) (node wanted : ℕ) → None ≡ retry_in chans s call node wanted → retry_among chans (s ∷ rest) call node wanted ≡ retry_among chans rest call (node + nodes_at chans call s) wanted
+  pub retry-next : (s : ℕ) (rest : List ℕ) (node wanted : ℕ) → None ≡ retry_in chans s call node wanted
+      → retry_among chans (s ∷ rest) call node wanted ≡ retry_among chans rest call (node + nodes_at chans call s) wanted
   unfolding retry_in retry_among
   retry-next s rest node wanted none = or-none (leaf_if node (plan chans s call) wanted) (leaf_among (λ t. plan chans t call) (node + nodes_at chans call s) rest wanted) none
 
@@ -231,11 +248,13 @@ module _ {M G : Type 0} (chans : List (Chan M G)) (call : ℕ) where
     pub part-behind : (part : PartChan M G) → slice_get chans number ≡ Some (chan.Part part) → nodes_at chans call number ≡ 1 + part.parts
     part-behind part at = ap nodes_if (over chans sound call number here (chan.Part part) at) ∙ ap (λ n. 1 + n) (part-nodes part 0 part.parts)
 
-    pub part-retry : (part : PartChan M G) (node wanted : ℕ) → slice_get chans number ≡ Some (chan.Part part) → retry_in chans number call node wanted ≡ part_retry (node + 1) part.parts part.retry wanted
+    pub part-retry : (part : PartChan M G) (node wanted : ℕ) → slice_get chans number ≡ Some (chan.Part part)
+        → retry_in chans number call node wanted ≡ part_retry (node + 1) part.parts part.retry wanted
     unfolding retry_in
     part-retry part node wanted at = ap (λ o. retry_of (leaf_if node o wanted)) (over chans sound call number here (chan.Part part) at) ∙ part-leaf part 0 part.parts (node + 1) wanted
 
-    pub par-retry : (par : ParChan M G) (node wanted : ℕ) → slice_get chans number ≡ Some (chan.Par par) → retry_in chans number call node wanted ≡ retry_among chans (subs_of par) call (node + 1) wanted
+    pub par-retry : (par : ParChan M G) (node wanted : ℕ) → slice_get chans number ≡ Some (chan.Par par)
+        → retry_in chans number call node wanted ≡ retry_among chans (subs_of par) call (node + 1) wanted
     unfolding retry_in retry_among
     par-retry par node wanted at = ap retry_of ((par-is chans sound call number here par at).leaf node wanted)
 
@@ -243,7 +262,8 @@ module _ {M G : Type 0} (chans : List (Chan M G)) (call : ℕ) where
     unfolding node_behind
     par-behind par node at = let n = (par-is chans sound call number here par at).size.0 in omega (arith, n)
 
-    pub sel-retry : (sel : SelChan) (node wanted : ℕ) → slice_get chans number ≡ Some (chan.Sel sel) → retry_in chans number call node wanted ≡ retry_among chans (tries sel call) call (node + 1) wanted
+    pub sel-retry : (sel : SelChan) (node wanted : ℕ) → slice_get chans number ≡ Some (chan.Sel sel)
+        → retry_in chans number call node wanted ≡ retry_among chans (tries sel call) call (node + 1) wanted
     unfolding retry_in retry_among
     sel-retry sel node wanted at = ap retry_of ((sel-is chans sound call number here sel at).leaf node wanted)
 

@@ -1,5 +1,6 @@
 -- The table of a plan's leaves gives the versions of its range.
-use Rattle.std.proofs.Common.{◌≡◌, ℕ, zero, suc, ◌+◌, ◌-◌, ◌<◌, ◌≤◌, ◌⊎◌, inl, inr, Bool, true, false, ◌==◌, ◌&&◌, nat_lt, List, [], ◌∷◌, ◌++◌, length, get_or, position, slice_get, Some, None, arith, refl, ap, sym, ◌∙◌, subst, length-append}
+use Rattle.std.proofs.Common.{◌≡◌, ℕ, zero, suc, ◌+◌, ◌-◌, ◌<◌, ◌≤◌, ◌⊎◌, inl, inr, Bool, true, false, ◌==◌, ◌&&◌, nat_lt, List, [], ◌∷◌, ◌++◌, length, get_or, position, slice_get, Some}
+use Rattle.std.proofs.Common.{None, arith, refl, ap, sym, ◌∙◌, subst, length-append}
 use Rattle.std.proofs.lemmas.Bool.Decides.{nat_tests}
 use Rattle.std.specs.List.{IsDistinct}
 use Rattle.std.proofs.lemmas.List.{append_assoc, append-nil}
@@ -31,14 +32,16 @@ module _ {M G : Type 0} where
     total-all (plan_then plan plans) = let a = total-counts plan in let b = total-all plans in let l = total-append (leaf_counts plan) (leaf_counts_of plans) in omega (arith, a, b, l)
 
   -- one tree and then others
-  pub firsts-then : (first : ℕ) (plan : Plan M G) (plans : Plans M G) → firsts_from first (leaf_counts plan ++ leaf_counts_of plans) ≡ firsts_from first (leaf_counts plan) ++ firsts_from (first + possible_attempts plan) (leaf_counts_of plans)
+  pub firsts-then : (first : ℕ) (plan : Plan M G) (plans : Plans M G)
+      → firsts_from first (leaf_counts plan ++ leaf_counts_of plans) ≡ firsts_from first (leaf_counts plan) ++ firsts_from (first + possible_attempts plan) (leaf_counts_of plans)
   firsts-then first plan plans = firsts-append first (leaf_counts plan) (leaf_counts_of plans) (first + possible_attempts plan) (let h = total-counts plan in omega (arith, h))
 
 -- ---- the attempts of the leaves, one after another
 
 length-leaf : (node j count : ℕ) (rest : List Meaning) (o : ℕ) → slice_get (leaf_versions node j count ++ rest) (count + o) ≡ slice_get rest o
 length-leaf node j zero rest o = ap (slice_get rest) (let same : 0 + o ≡ o = omega arith in same)
-length-leaf node j (suc count) rest o = subst (λ i. slice_get (leaf_versions node j (suc count) ++ rest) i ≡ slice_get rest o) (let same : suc (count + o) ≡ suc count + o = omega arith in same) (length-leaf node (j + 1) count rest o)
+length-leaf node j (suc count) rest o =
+    subst (λ i. slice_get (leaf_versions node j (suc count) ++ rest) i ≡ slice_get rest o) (let same : suc (count + o) ≡ suc count + o = omega arith in same) (length-leaf node (j + 1) count rest o)
 
 leaf-get : (node j count : ℕ) (rest : List Meaning) (k : ℕ) → k < count → slice_get (leaf_versions node j count ++ rest) k ≡ Some (Attempt node (j + k))
 leaf-get node j zero rest k less = absurd (omega (arith, less))
@@ -57,7 +60,8 @@ attempt-at [] counts first i k o less same few at = absurd (omega (arith, less))
 attempt-at (n ∷ nodes) [] first i k o less same few at = absurd (omega (arith, same))
 attempt-at (n ∷ nodes) (c ∷ counts) first zero k o less same few at =
     let here : o ≡ k = omega (arith, at) in
-    subst (λ p. slice_get (leaf_versions n 0 c ++ attempts_by nodes counts) p ≡ Some (Attempt n k)) (sym here) (leaf-get n 0 c (attempts_by nodes counts) k few ∙ ap (λ m. Some (Attempt n m)) (let z : 0 + k ≡ k = omega arith in z))
+    subst (λ p. slice_get (leaf_versions n 0 c ++ attempts_by nodes counts) p ≡ Some (Attempt n k)) (sym here)
+    (leaf-get n 0 c (attempts_by nodes counts) k few ∙ ap (λ m. Some (Attempt n m)) (let z : 0 + k ≡ k = omega arith in z))
 attempt-at (n ∷ nodes) (c ∷ counts) first (suc i) k o less same few at =
     let past = first-least (first + c) counts i (omega (arith, less, same)) in
     let split : o ≡ c + (o - c) = omega (arith, at, past) in
@@ -109,11 +113,13 @@ leaf-other node attempt n j zero other = tt
 leaf-other node attempt n j (suc count) other = (ap (λ v. v && attempt == j) other, leaf-other node attempt n (j + 1) count other)
 
 -- An attempt stands nowhere where each leaf of its number has fewer.
-pub apart-all : (nodes counts : List ℕ) (node attempt : ℕ) → length nodes ≡ length counts → ((k : ℕ) → k < length nodes → get_or nodes k 0 ≡ node → get_or counts k 0 ≤ attempt) → Apart (Attempt node attempt) (attempts_by nodes counts)
+pub apart-all : (nodes counts : List ℕ) (node attempt : ℕ) → length nodes ≡ length counts → ((k : ℕ) → k < length nodes → get_or nodes k 0 ≡ node → get_or counts k 0 ≤ attempt)
+    → Apart (Attempt node attempt) (attempts_by nodes counts)
 apart-all [] counts node attempt same few = tt
 apart-all (n ∷ nodes) [] node attempt same few = absurd (omega (arith, same))
 apart-all (n ∷ nodes) (c ∷ counts) node attempt same few =
-    apart-append (Attempt node attempt) (leaf_versions n 0 c) (attempts_by nodes counts) (here (node == n) refl) (apart-all nodes counts node attempt (omega (arith, same)) (λ k less is. few (suc k) (omega (arith, less)) is))
+    apart-append (Attempt node attempt) (leaf_versions n 0 c) (attempts_by nodes counts) (here (node == n) refl)
+    (apart-all nodes counts node attempt (omega (arith, same)) (λ k less is. few (suc k) (omega (arith, less)) is))
   where
     here : (v : Bool) → (node == n) ≡ v → Apart (Attempt node attempt) (leaf_versions n 0 c)
     here true e =
@@ -157,7 +163,8 @@ by-append : (ns ms cs ds : List ℕ) → length ns ≡ length cs → attempts_by
 by-append [] ms [] ds same = refl
 by-append [] ms (c ∷ cs) ds same = absurd (omega (arith, same))
 by-append (n ∷ ns) ms [] ds same = absurd (omega (arith, same))
-by-append (n ∷ ns) ms (c ∷ cs) ds same = ap (λ xs. leaf_versions n 0 c ++ xs) (by-append ns ms cs ds (omega (arith, same))) ∙ sym (append_assoc (leaf_versions n 0 c) (attempts_by ns cs) (attempts_by ms ds))
+by-append (n ∷ ns) ms (c ∷ cs) ds same =
+    ap (λ xs. leaf_versions n 0 c ++ xs) (by-append ns ms cs ds (omega (arith, same))) ∙ sym (append_assoc (leaf_versions n 0 c) (attempts_by ns cs) (attempts_by ms ds))
 
 some-append : (xs ys : List ℕ) → AreSome xs → AreSome ys → AreSome (xs ++ ys)
 some-append [] ys h hs = hs
@@ -198,20 +205,24 @@ module _ {M G : Type 0} where
     all-are : (node : ℕ) (plans : Plans M G) → attempt_versions_of node plans ≡ attempts_by (leaf_nodes_of node plans) (leaf_counts_of plans)
     all-are node last_plan = refl
     all-are node (plan_then plan plans) =
-        ap (λ xs. xs ++ attempt_versions_of (node + nodes plan) plans) (attempts-are node plan) ∙ ap (λ ys. attempts_by (leaf_nodes node plan) (leaf_counts plan) ++ ys) (all-are (node + nodes plan) plans)
+        ap (λ xs. xs ++ attempt_versions_of (node + nodes plan) plans) (attempts-are node plan)
+        ∙ ap (λ ys. attempts_by (leaf_nodes node plan) (leaf_counts plan) ++ ys) (all-are (node + nodes plan) plans)
         ∙ sym (by-append (leaf_nodes node plan) (leaf_nodes_of (node + nodes plan) plans) (leaf_counts plan) (leaf_counts_of plans) (same-length node plan))
 
   mutual
     pub leaves-rise : (node : ℕ) (plan : Plan M G) → RisesIn node (node + nodes plan) (leaf_nodes node plan)
     leaves-rise node (leaf_plan leaf) = (omega arith, omega arith)
-    leaves-rise node (par_plan rule plans) = rise-wider (node + 1) (node + 1 + nodes_of plans) node (node + (1 + nodes_of plans)) (leaf_nodes_of (node + 1) plans) (omega arith) (omega arith) (all-rise (node + 1) plans)
-    leaves-rise node (sel_plan timeout plans) = rise-wider (node + 1) (node + 1 + nodes_of plans) node (node + (1 + nodes_of plans)) (leaf_nodes_of (node + 1) plans) (omega arith) (omega arith) (all-rise (node + 1) plans)
+    leaves-rise node (par_plan rule plans) =
+        rise-wider (node + 1) (node + 1 + nodes_of plans) node (node + (1 + nodes_of plans)) (leaf_nodes_of (node + 1) plans) (omega arith) (omega arith) (all-rise (node + 1) plans)
+    leaves-rise node (sel_plan timeout plans) =
+        rise-wider (node + 1) (node + 1 + nodes_of plans) node (node + (1 + nodes_of plans)) (leaf_nodes_of (node + 1) plans) (omega arith) (omega arith) (all-rise (node + 1) plans)
 
     all-rise : (node : ℕ) (plans : Plans M G) → RisesIn node (node + nodes_of plans) (leaf_nodes_of node plans)
     all-rise node last_plan = omega arith
     all-rise node (plan_then plan plans) =
         rise-append node (node + nodes plan) (node + (nodes plan + nodes_of plans)) (leaf_nodes node plan) (leaf_nodes_of (node + nodes plan) plans) (leaves-rise node plan)
-        (rise-wider (node + nodes plan) (node + nodes plan + nodes_of plans) (node + nodes plan) (node + (nodes plan + nodes_of plans)) (leaf_nodes_of (node + nodes plan) plans) (omega arith) (omega arith) (all-rise (node + nodes plan) plans)) (omega arith)
+        (rise-wider (node + nodes plan) (node + nodes plan + nodes_of plans) (node + nodes plan) (node + (nodes plan + nodes_of plans)) (leaf_nodes_of (node + nodes plan) plans)
+        (omega arith) (omega arith) (all-rise (node + nodes plan) plans)) (omega arith)
 
 -- ---- what is found in the lists
 
@@ -266,16 +277,20 @@ module _ (leaves counts : List ℕ) (node attempt : ℕ) (same : length leaves �
       let there = attempt-at leaves counts 0 at attempt o less same few (omega arith) in
       position-of (Attempt node attempt) (attempts_by leaves counts) o distinct (there ∙ ap (λ n. Some (Attempt n attempt)) is)
 
-  pub past-place : (at : ℕ) → IsRising leaves → at < length leaves → get_or leaves at 0 ≡ node → get_or counts at 0 ≤ attempt → position (is_same (Attempt node attempt)) (attempts_by leaves counts) ≡ None
-  past-place at rise less is past = position-none (Attempt node attempt) (attempts_by leaves counts) (apart-all leaves counts node attempt same (λ k short here. by k short here (before_or_not k at) (before_or_not at k)))
+  pub past-place : (at : ℕ) → IsRising leaves → at < length leaves → get_or leaves at 0 ≡ node → get_or counts at 0 ≤ attempt
+      → position (is_same (Attempt node attempt)) (attempts_by leaves counts) ≡ None
+  past-place at rise less is past =
+      position-none (Attempt node attempt) (attempts_by leaves counts) (apart-all leaves counts node attempt same (λ k short here. by k short here (before_or_not k at) (before_or_not at k)))
     where
       by : (k : ℕ) → k < length leaves → get_or leaves k 0 ≡ node → (k < at) ⊎ (at ≤ k) → (at < k) ⊎ (k ≤ at) → get_or counts k 0 ≤ attempt
       by k short here (inl before) other = absurd (let r = rise k at before less in omega (arith, r, here, is))
       by k short here (inr le) (inl behind) = absurd (let r = rise at k behind short in omega (arith, r, here, is))
       by k short here (inr le) (inr ge) = let k_is : k ≡ at = omega (arith, le, ge) in subst (λ j. get_or counts j 0 ≤ attempt) (sym k_is) past
 
-  pub absent-place : (i : ℕ) → ((k : ℕ) → k < i → get_or leaves k 0 < node) → ((k : ℕ) → i ≤ k → k < length leaves → node < get_or leaves k 0) → position (is_same (Attempt node attempt)) (attempts_by leaves counts) ≡ None
-  absent-place i below above = position-none (Attempt node attempt) (attempts_by leaves counts) (apart-all leaves counts node attempt same (λ k short here. absurd (by k short here (before_or_not k i))))
+  pub absent-place : (i : ℕ) → ((k : ℕ) → k < i → get_or leaves k 0 < node) → ((k : ℕ) → i ≤ k → k < length leaves → node < get_or leaves k 0)
+      → position (is_same (Attempt node attempt)) (attempts_by leaves counts) ≡ None
+  absent-place i below above =
+      position-none (Attempt node attempt) (attempts_by leaves counts) (apart-all leaves counts node attempt same (λ k short here. absurd (by k short here (before_or_not k i))))
     where
       by : (k : ℕ) → k < length leaves → get_or leaves k 0 ≡ node → (k < i) ⊎ (i ≤ k) → ⊥
       by k short here (inl less) = let b = below k less in omega (arith, b, here)

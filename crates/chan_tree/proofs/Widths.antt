@@ -43,7 +43,8 @@ module _ {M G : Type 0} where
   parts-width part first zero = grind arith
   parts-width part first (suc count) = let h = parts-width part (first + 1) count in let m = one-more count (part.retry + 2) in omega (arith, h, m)
 
-  chan-width : (f : ℕ → Option (Plan M G)) (g : ℕ → ℕ) (call n : ℕ) (c : Chan M G) → IsSound n c → ((s : ℕ) → s < n → WidthIs (f s) (g s)) → WidthIs (chan_plan f call (Some c)) (chan_width g call (Some c))
+  chan-width : (f : ℕ → Option (Plan M G)) (g : ℕ → ℕ) (call n : ℕ) (c : Chan M G) → IsSound n c → ((s : ℕ) → s < n → WidthIs (f s) (g s))
+      → WidthIs (chan_plan f call (Some c)) (chan_width g call (Some c))
   chan-width f g call n (chan.Leaf leaf) sound h = omega arith
   chan-width f g call n (chan.Par par) sound h = par-width (rule_of par) (plans_of f (subs_of par)) (total g (subs_of par)) (plans-width f g n (subs_of par) sound h)
   chan-width f g call n (chan.Sel sel) sound h = sel-width sel.timeout (plans_of f (tries sel call)) (total g (tries sel call)) (plans-width f g n (tries sel call) (sel-before n call sel sound) h)

@@ -101,7 +101,8 @@ after-append t [] gs = refl
 after-append t (f ∷ fs) gs = after-append (after t f) fs gs
 
 -- All that waited was answered.
-pub answered_all : (in0 now out0 out out' : Option (List ℕ)) (t0 t t' : Turn) (s s' : Stream) → Serving in0 now out0 out t0 t s → out' ≡ append_known out (texts t s.frames) → closes_in t s.frames ≡ false
+pub answered_all : (in0 now out0 out out' : Option (List ℕ)) (t0 t t' : Turn) (s s' : Stream) → Serving in0 now out0 out t0 t s → out' ≡ append_known out (texts t s.frames)
+    → closes_in t s.frames ≡ false
     → t' ≡ after_all t s.frames → s' ≡ record s { frames = [] } → Serving in0 now out0 out' t0 t' s'
 answered_all in0 now out0 out out' t0 t t' s s' a w goes turn left = record {
   read = a.read;
@@ -126,7 +127,9 @@ halted_so in0 now out0 out out' t0 t tn s met rb rn wb w wn a later halt.Closed 
   read = a.read;
   took = a.took;
   served = (
-    p.0 ∙ (ap (λ (o : Option (List ℕ)). append_known o (texts t s.frames)) a.wrote ∙ (append_known-more out0 (texts t0 a.done) (texts t s.frames) ∙ ap (λ (l : List ℕ). append_known out0 l) (whole-text in0 now out0 out t0 t s a))),
+    p.0
+        ∙ (ap (λ (o : Option (List ℕ)). append_known o (texts t s.frames)) a.wrote
+        ∙ (append_known-more out0 (texts t0 a.done) (texts t s.frames) ∙ ap (λ (l : List ℕ). append_known out0 l) (whole-text in0 now out0 out t0 t s a))),
     ap (λ (x : Stream). closes_in t0 x.frames) a.stream ∙ (closes-append t0 a.done s.frames a.goes ∙ (ap (λ (x : Turn). closes_in x s.frames) (sym a.turn) ∙ p.1)),
   );
 }
@@ -154,7 +157,8 @@ answers_all in0 now out0 out t0 t s a none = let e = done-are in0 now out0 out t
 }
 
 -- What a read brought.
-pub brought_in : (in0 now now' out0 out : Option (List ℕ)) (t0 t : Turn) (s s' : Stream) (b n : ℕ) (met : Bool) → Serving in0 now out0 out t0 t s → (what : Brought) → Brings now now' s s' b n met what → Serving in0 now' out0 out t0 t s'
+pub brought_in : (in0 now now' out0 out : Option (List ℕ)) (t0 t : Turn) (s s' : Stream) (b n : ℕ) (met : Bool) → Serving in0 now out0 out t0 t s → (what : Brought)
+    → Brings now now' s s' b n met what → Serving in0 now' out0 out t0 t s'
 brought_in in0 now now' out0 out t0 t s s' b n met a brought.More p = fed_one in0 now now' out0 out t0 t s s' a p.0
 brought_in in0 now now' out0 out t0 t s s' b n met a brought.End p = fed_one in0 now now' out0 out t0 t s s' a p.0
 brought_in in0 now now' out0 out t0 t s s' b n met a brought.Fault p =
@@ -162,13 +166,15 @@ brought_in in0 now now' out0 out t0 t s s' b n met a brought.Fault p =
 brought_in in0 now now' out0 out t0 t s s' b n met a (brought.Bad f) p = fed_one in0 now now' out0 out t0 t s s' a p.0
 
 -- After want of memory a piece was read and not taken.
-pub lost_piece : (in0 now now' out0 out : Option (List ℕ)) (t0 t tn : Turn) (s : Stream) (met : Bool) (rb rn wb wn : ℕ) → Serving in0 now out0 out t0 t s → (piece : List ℕ) × (now' ≡ append_known now piece)
+pub lost_piece : (in0 now now' out0 out : Option (List ℕ)) (t0 t tn : Turn) (s : Stream) (met : Bool) (rb rn wb wn : ℕ) → Serving in0 now out0 out t0 t s
+    → (piece : List ℕ) × (now' ≡ append_known now piece)
     → HasServed t0 tn in0 now' out0 out met rb rn wb wn served.Memory
 lost_piece in0 now now' out0 out t0 t tn s met rb rn wb wn a p =
     let b = fed_one in0 now now' out0 out t0 t s (fed s p.0) a (p.0, p.1, refl) in record {
       read = b.read;
       took = b.took;
-      served = part-front out0 out out (texts t0 b.done) (texts t (fed s p.0).frames) (texts t0 (frames 0 b.read).frames) b.wrote (whole-text in0 now' out0 out t0 t (fed s p.0) b) (0, omega arith, append_known-nil out);
+      served = part-front out0 out out (texts t0 b.done) (texts t (fed s p.0).frames) (texts t0 (frames 0 b.read).frames) b.wrote (whole-text in0 now' out0 out t0 t (fed s p.0) b)
+          (0, omega arith, append_known-nil out);
     }
 
 fault-is : (in0 now out0 out : Option (List ℕ)) (t0 t : Turn) (s : Stream) → (a : Serving in0 now out0 out t0 t s) → (frames 0 a.read).fault ≡ s.fault
@@ -187,7 +193,8 @@ failed_so in0 now out0 out t0 t s met rb r rn wb wn a none later rose plain =
     record { read = a.read; took = a.took; served = (answers_all in0 now out0 out t0 t s a none, omega (arith, later, rose), fault-is in0 now out0 out t0 t s a ∙ plain) }
 
 -- A frame was bad.
-pub bad_so : (in0 now out0 out : Option (List ℕ)) (t0 t : Turn) (s : Stream) (met : Bool) (rb rn wb wn : ℕ) (f : FeedFault) → Serving in0 now out0 out t0 t s → s.frames ≡ [] → s.fault ≡ Some f → IsFinal f
+pub bad_so : (in0 now out0 out : Option (List ℕ)) (t0 t : Turn) (s : Stream) (met : Bool) (rb rn wb wn : ℕ) (f : FeedFault) → Serving in0 now out0 out t0 t s → s.frames ≡ []
+    → s.fault ≡ Some f → IsFinal f
     → HasServed t0 t in0 now out0 out met rb rn wb wn (served.BadFrame f)
 bad_so in0 now out0 out t0 t s met rb rn wb wn f a none bad final_fault =
     record { read = a.read; took = a.took; served = (answers_all in0 now out0 out t0 t s a none, fault-is in0 now out0 out t0 t s a ∙ bad, final_fault) }
@@ -202,7 +209,8 @@ end_is old new s s' b n met what p e = let q = subst (λ (x : Brought). Brings o
 pub fault_is : (old new : Option (List ℕ)) (s s' : Stream) (b n : ℕ) (met : Bool) (what : Brought) → Brings old new s s' b n met what → what ≡ brought.Fault → (s' ≡ s) × Rose b n
 fault_is old new s s' b n met what p e = let q = subst (λ (x : Brought). Brings old new s s' b n met x) e p in (q.1, q.2)
 
-pub bad_is : (old new : Option (List ℕ)) (s s' : Stream) (b n : ℕ) (met : Bool) (what : Brought) (f : FeedFault) → Brings old new s s' b n met what → what ≡ brought.Bad f → (s'.fault ≡ Some f) × IsFinal f
+pub bad_is : (old new : Option (List ℕ)) (s s' : Stream) (b n : ℕ) (met : Bool) (what : Brought) (f : FeedFault) → Brings old new s s' b n met what → what ≡ brought.Bad f
+    → (s'.fault ≡ Some f) × IsFinal f
 bad_is old new s s' b n met what f p e = let q = subst (λ (x : Brought). Brings old new s s' b n met x) e p in (q.1, q.2)
 
 pub left_frames : (s s' : Stream) → s' ≡ record s { frames = [] } → s'.frames ≡ []

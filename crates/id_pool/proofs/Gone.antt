@@ -1,9 +1,12 @@
 -- An id that is gone stays gone, whatever a pool's calls do.
-use Rattle.std.proofs.Common.{◌≡◌, ◌≢◌, ℕ, zero, suc, ◌+◌, ◌-◌, ◌^◌, ◌<◌, ◌≤◌, ◌⊎◌, inl, inr, leb, ltb, ◌&&◌, ◌==◌, Bool, true, false, cond, List, [], ◌∷◌, slice_get, Some, None, arith, refl, sym, ap, ◌∙◌, subst}
+use Rattle.std.proofs.Common.{◌≡◌, ◌≢◌, ℕ, zero, suc, ◌+◌, ◌-◌, ◌^◌, ◌<◌, ◌≤◌, ◌⊎◌, inl, inr, leb, ltb, ◌&&◌, ◌==◌, Bool, true, false, cond, List, [], ◌∷◌, slice_get, Some, None, arith}
+use Rattle.std.proofs.Common.{refl, sym, ap, ◌∙◌, subst}
 use Rattle.std.proofs.lemmas.Bool.Decides.{nat_tests}
 use Rattle.std.specs.declared.option.Option.{Option}
 use Rattle.id_pool.specs.Ids.{slot_of, version_of}
-use Rattle.id_pool.specs.Ranges.{Slot, Vacant, Retired, Taken, Range, Standing, Free, Held, Ended, Nothing, has_ended, offset, seen, seen_at, seen_in, slot_at, look, owned_at, stands, held, locked, locked_by, posted, posted_by, unlocked, unlocked_by, let_go, destroyed, destroyed_by, widens, resized, resized_by, left_by, cancelled, cancelled_by, cancelled_if, collected, collected_by, with_value, valued, change, change_at, lowest, later, created_at, fresh, is_width}
+use Rattle.id_pool.specs.Ranges.{Slot, Vacant, Retired, Taken, Range, Standing, Free, Held, Ended, Nothing, has_ended, offset, seen, seen_at, seen_in, slot_at, look, owned_at, stands, held}
+use Rattle.id_pool.specs.Ranges.{locked, locked_by, posted, posted_by, unlocked, unlocked_by, let_go, destroyed, destroyed_by, widens, resized, resized_by, left_by, cancelled, cancelled_by}
+use Rattle.id_pool.specs.Ranges.{cancelled_if, collected, collected_by, with_value, valued, change, change_at, lowest, later, created_at, fresh, is_width}
 use Rattle.id_pool.specs.Laws.{Step, Create, Lock, ResetRange, Post, Unlock, Destroy, Cancel, Collect, Write, stepped, run, GoneStaysGone}
 
 -- a version of a range that won't be one of this slot's ranges any more
@@ -61,7 +64,8 @@ module _ {T : Type 0} where
   gone_nothing v Retired h = refl
   gone_nothing v (Taken r) h = gone_if v r (has_ended r.standing) refl h
 
-  found_in : (v : ℕ) (r : Range T) (b : Bool) → (leb r.first v && ltb v (r.first + r.size)) ≡ b → seen_at r (cond b (Some (v - r.first)) None) r.standing ≢ Nothing → (r.first ≤ v) × (v < r.first + r.size)
+  found_in : (v : ℕ) (r : Range T) (b : Bool) → (leb r.first v && ltb v (r.first + r.size)) ≡ b → seen_at r (cond b (Some (v - r.first)) None) r.standing ≢ Nothing
+      → (r.first ≤ v) × (v < r.first + r.size)
   found_in v r true e n = in_range v r.first r.size e
   found_in v r false e n = absurd (n refl)
 
@@ -88,7 +92,8 @@ module _ {T : Type 0} where
   keeps_same : (v : ℕ) (s : Slot T) → Keeps v s s
   keeps_same v s = record { known = λ n. inl n; gone = λ h. h }
 
-  on_known : (v : ℕ) (r t : Range T) → t.first ≡ r.first → r.size ≤ t.size → (r.first ≤ v) × (v < r.first + r.size) → (b : Bool) → has_ended t.standing ≡ b → (seen v (Taken t) ≢ Nothing) ⊎ IsPast v b t
+  on_known : (v : ℕ) (r t : Range T) → t.first ≡ r.first → r.size ≤ t.size → (r.first ≤ v) × (v < r.first + r.size) → (b : Bool) → has_ended t.standing ≡ b
+      → (seen v (Taken t) ≢ Nothing) ⊎ IsPast v b t
   on_known v r t f s h true e = let a = h.1 in inr (omega (arith, a, f, s))
   on_known v r t f s h false e = let a = h.0 in let b = h.1 in inl (found_there v t (omega (arith, a, f)) (omega (arith, b, f, s)) e)
 
@@ -269,7 +274,8 @@ module _ {T : Type 0} where
       let both = pair_parts 0 n i next e in
       let a : 0 ≡ i = both.0 in
       let b : n ≡ next = both.1 in
-      subst (λ (k : ℕ). KeepsIn v (slice_get (Vacant n ∷ ss) j) (slice_get (change k (λ s. Taken (fresh next size value)) (Vacant n ∷ ss)) j)) a (vacant_in j (subst (λ (k : ℕ). Keeps v (Vacant n) (Taken (fresh k size value))) b (keeps_begun v n size value)))
+      subst (λ (k : ℕ). KeepsIn v (slice_get (Vacant n ∷ ss) j) (slice_get (change k (λ s. Taken (fresh next size value)) (Vacant n ∷ ss)) j)) a
+      (vacant_in j (subst (λ (k : ℕ). Keeps v (Vacant n) (Taken (fresh k size value))) b (keeps_begun v n size value)))
     where
       vacant_in : (j : ℕ) → Keeps v (Vacant n) (Taken (fresh next size value)) → KeepsIn v (slice_get (Vacant n ∷ ss) j) (slice_get (Taken (fresh next size value) ∷ ss) j)
       vacant_in zero k = in_some v (Vacant n) (Taken (fresh next size value)) k
@@ -300,7 +306,8 @@ module _ {T : Type 0} where
   run_gone id [] ss h = h
   run_gone id (s ∷ steps) ss h = run_gone id steps (stepped s ss) ((step_in id s ss).gone h)
 
-  run_known : (id : ℕ) (steps : List (Step T)) (ss : List (Slot T)) → (look id ss ≢ Nothing) ⊎ IsGoneIn (version_of id) (slot_at (slot_of id) ss) → (look id (run steps ss) ≢ Nothing) ⊎ IsGoneIn (version_of id) (slot_at (slot_of id) (run steps ss))
+  run_known : (id : ℕ) (steps : List (Step T)) (ss : List (Slot T)) → (look id ss ≢ Nothing) ⊎ IsGoneIn (version_of id) (slot_at (slot_of id) ss)
+      → (look id (run steps ss) ≢ Nothing) ⊎ IsGoneIn (version_of id) (slot_at (slot_of id) (run steps ss))
   run_known id [] ss h = h
   run_known id (s ∷ steps) ss (inl n) = run_known id steps (stepped s ss) ((step_in id s ss).known n)
   run_known id (s ∷ steps) ss (inr g) = run_known id steps (stepped s ss) (inr ((step_in id s ss).gone g))

@@ -27,7 +27,8 @@ slice_get-set zero (x ∷ ss) t h = refl
 slice_get-set (suc i) (x ∷ ss) t h = slice_get-set i ss t (omega arith)
 
 -- each id of a new range finds its place
-pub find-fresh : {T : Type 0} (slot first size k : ℕ) (value : T) (ss : List (Slot T)) (t : Slot T) → slot < length ss → first + size ≤ 2 ^ 32 → k < size → t ≡ Taken (fresh first size value) → find_says (look (make_id slot first + k) (set ss slot t)) ≡ Some k
+pub find-fresh : {T : Type 0} (slot first size k : ℕ) (value : T) (ss : List (Slot T)) (t : Slot T) → slot < length ss → first + size ≤ 2 ^ 32 → k < size → t ≡ Taken (fresh first size value)
+    → find_says (look (make_id slot first + k) (set ss slot t)) ≡ Some k
 find-fresh slot first size k value ss t h fits l u =
     let id : make_id slot first + k ≡ make_id slot (first + k) = make_id-plus slot first k in
     let v : version_of (make_id slot first + k) ≡ first + k = ap version_of id ∙ version_of-make_id slot (first + k) (omega arith) in

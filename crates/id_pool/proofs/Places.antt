@@ -1,11 +1,14 @@
 -- What an id finds and changes in a list of slots, at the slot that it names.
-use Rattle.std.proofs.Common.{◌≡◌, ℕ, zero, suc, ◌<◌, ◌≤◌, ltb, Bool, true, false, if◌then◌else◌, List, [], ◌∷◌, length, get_or, set, refl, sym, ◌∙◌, ap, inl, inr, arith, Some, None, Ok, Err, OnOk, OnErr, IsSome, slice_get}
+use Rattle.std.proofs.Common.{◌≡◌, ℕ, zero, suc, ◌<◌, ◌≤◌, ltb, Bool, true, false, if◌then◌else◌, List, [], ◌∷◌, length, get_or, set, refl, sym, ◌∙◌, ap, inl, inr, arith, Some, None, Ok}
+use Rattle.std.proofs.Common.{Err, OnOk, OnErr, IsSome, slice_get}
 use Rattle.std.proofs.lemmas.Bool.{cases_lt}
 use borrow.Author.Tests.{ltb-true, lt-ltb}
 use Rattle.std.specs.declared.option.Option.{Option}
 use Rattle.std.specs.declared.result.Result.{Result}
 use Rattle.id_pool.specs.Ids.{slot_of, version_of}
-use Rattle.id_pool.specs.Ranges.{Slot, Vacant, Retired, Taken, Range, Seen, Nothing, Unlocked, Locked, Absent, seen, seen_at, offset, owned, look, own, seen_in, owned_in, slot_at, change, change_at, changed, locked, locked_by, posted, posted_by, unlocked, unlocked_by, destroyed, destroyed_by, resized, resized_by, cancelled, collected, widens, valued, value_in, Standing, Free, Held, Ended}
+use Rattle.id_pool.specs.Ranges.{Slot, Vacant, Retired, Taken, Range, Seen, Nothing, Unlocked, Locked, Absent, seen, seen_at, offset, owned, look, own, seen_in, owned_in, slot_at, change}
+use Rattle.id_pool.specs.Ranges.{change_at, changed, locked, locked_by, posted, posted_by, unlocked, unlocked_by, destroyed, destroyed_by, resized, resized_by, cancelled, collected, widens}
+use Rattle.id_pool.specs.Ranges.{valued, value_in, Standing, Free, Held, Ended}
 use Rattle.id_pool.specs.Answers.{value_says}
 use Rattle.id_pool.specs.Vacancies.{is_vacant}
 use Rattle.id_pool.specs.Places.{below, place}

@@ -1,5 +1,6 @@
 -- What the set of vacant slots is once a slot changes.
-use Rattle.std.proofs.Common.{◌≡◌, ◌≢◌, ℕ, zero, suc, ◌<◌, ◌≤◌, ltb, Bool, true, false, List, [], ◌∷◌, ◌++◌, length, get_or, set, refl, sym, ◌∙◌, ap, subst, inl, inr, arith, add-one, Some, None, Ok, Err}
+use Rattle.std.proofs.Common.{◌≡◌, ◌≢◌, ℕ, zero, suc, ◌<◌, ◌≤◌, ltb, Bool, true, false, List, [], ◌∷◌, ◌++◌, length, get_or, set, refl, sym, ◌∙◌, ap, subst, inl, inr, arith, add-one, Some}
+use Rattle.std.proofs.Common.{None, Ok, Err}
 use Rattle.std.proofs.lemmas.List.{length-set}
 use Rattle.std.proofs.lemmas.Bool.{cases_eq}
 use Rattle.std.proofs.lemmas.Bool.Decides.{nat_tests}
@@ -60,7 +61,8 @@ vacant_other (suc i) zero (x ∷ ss) t n = refl
 vacant_other (suc i) (suc k) (x ∷ ss) t n = vacant_other i k ss t (λ e. n (ap suc e))
 
 -- the set after a slot changed, told at this slot and at the others
-changed_listed : {T : Type 0} (i : ℕ) (ss : List (Slot T)) (t : Slot T) (xs ys : List ℕ) → IsListed ss xs → i < length ss → is_in ys i ≡ is_vacant t → ((k : ℕ) → k ≢ i → is_in ys k ≡ is_in xs k) → IsListed (set ss i t) ys
+changed_listed : {T : Type 0} (i : ℕ) (ss : List (Slot T)) (t : Slot T) (xs ys : List ℕ) → IsListed ss xs → i < length ss → is_in ys i ≡ is_vacant t
+    → ((k : ℕ) → k ≢ i → is_in ys k ≡ is_in xs k) → IsListed (set ss i t) ys
 changed_listed i ss t xs ys l h here others = record {
   listed = λ k. elim (cases_eq k i) [
     | inl e ↦ ap (λ n. is_in ys n) e ∙ here ∙ sym (vacant_set i ss t h) ∙ ap (λ n. vacant_at (set ss i t) n) (sym e)
@@ -77,13 +79,15 @@ kept_vacant : (was is : Bool) → is ≡ false → (was ≡ true → is ≡ true
 kept_vacant true is e m = sym (m refl)
 kept_vacant false is e m = sym e
 
-relisted_by : {T : Type 0} (is : Bool) (i : ℕ) (ss : List (Slot T)) (s t : Slot T) (xs ys : List ℕ) → is_vacant t ≡ is → IsListed ss xs → s ≡ get_or ss i s → i < length ss → (is_vacant s ≡ true → is_vacant t ≡ true) → IsRelisted is i xs ys → IsListed (set ss i t) ys
+relisted_by : {T : Type 0} (is : Bool) (i : ℕ) (ss : List (Slot T)) (s t : Slot T) (xs ys : List ℕ) → is_vacant t ≡ is → IsListed ss xs → s ≡ get_or ss i s → i < length ss
+    → (is_vacant s ≡ true → is_vacant t ≡ true) → IsRelisted is i xs ys → IsListed (set ss i t) ys
 relisted_by true i ss s t xs ys e l r h m put = changed_listed i ss t xs ys l h (put.in_it ∙ sym e) put.others
 relisted_by false i ss s t xs ys e l r h m same =
     subst (λ (zs : List ℕ). IsListed (set ss i t) zs) (sym same) (still_listed i ss s t xs l h r (sym (kept_vacant (is_vacant s) (is_vacant t) e m)))
 
 -- a slot that may have become vacant, once it was put in
-pub relisted : {T : Type 0} (i : ℕ) (ss : List (Slot T)) (s t : Slot T) (xs ys : List ℕ) → IsListed ss xs → s ≡ get_or ss i s → i < length ss → (is_vacant s ≡ true → is_vacant t ≡ true) → IsRelisted (is_vacant t) i xs ys → IsListed (set ss i t) ys
+pub relisted : {T : Type 0} (i : ℕ) (ss : List (Slot T)) (s t : Slot T) (xs ys : List ℕ) → IsListed ss xs → s ≡ get_or ss i s → i < length ss → (is_vacant s ≡ true → is_vacant t ≡ true)
+    → IsRelisted (is_vacant t) i xs ys → IsListed (set ss i t) ys
 relisted i ss s t xs ys l r h m put = relisted_by (is_vacant t) i ss s t xs ys refl l r h m put
 
 -- ---- the lowest vacant slot
@@ -103,7 +107,8 @@ lowest_past (Vacant next) ss e = absurd (cc)
 lowest_past Retired ss e = refl
 lowest_past (Taken r) ss e = refl
 
-lowest_at : {T : Type 0} (i : ℕ) (ss : List (Slot T)) (s : Slot T) (first : ℕ) → i < length ss → ((j : ℕ) → j < i → vacant_at ss j ≡ false) → s ≡ get_or ss i s → s ≡ Vacant first → lowest ss ≡ Some (i, first)
+lowest_at : {T : Type 0} (i : ℕ) (ss : List (Slot T)) (s : Slot T) (first : ℕ) → i < length ss → ((j : ℕ) → j < i → vacant_at ss j ≡ false) → s ≡ get_or ss i s → s ≡ Vacant first
+    → lowest ss ≡ Some (i, first)
 lowest_at i [] s first h low r e = absurd (omega (arith, h))
 lowest_at zero (x ∷ ss) s first h low r e = lowest_first x ss first (sym r ∙ e)
 lowest_at (suc i) (x ∷ ss) s first h low r e =
@@ -139,11 +144,13 @@ pub record Takes {T : Type 0} (slot first : ℕ) (whole ss : List (Slot T)) (xs 
 place_of : {T : Type 0} (slot first : ℕ) (whole ss : List (Slot T)) (xs : List ℕ) (s : Slot T) → Takes slot first whole ss xs s → lowest ss ≡ Some (slot, first)
 place_of slot first whole ss xs s t = lowest_at slot ss s first (least_within slot ss xs t.listed t.least) (λ j l. sym (t.listed.listed j) ∙ t.least.first j l) t.read t.was
 
-pub create-taken : {T : Type 0} (range : ℕ) (value : T) (slot first : ℕ) (whole ss : List (Slot T)) (xs : List ℕ) (s : Slot T) → is_width range ≡ true → Takes slot first whole ss xs s → Ok (make_id slot first) ≡ create_says range value whole
+pub create-taken : {T : Type 0} (range : ℕ) (value : T) (slot first : ℕ) (whole ss : List (Slot T)) (xs : List ℕ) (s : Slot T) → is_width range ≡ true → Takes slot first whole ss xs s
+    → Ok (make_id slot first) ≡ create_says range value whole
 create-taken range value slot first whole ss xs s w t =
     sym (ap (λ zs. create_says range value zs) (sym t.same) ∙ ap (λ b. create_at b (lowest ss) value) w ∙ ap (λ o. create_at true o value) (place_of slot first whole ss xs s t))
 
-pub created-taken : {T : Type 0} (range : ℕ) (value : T) (slot first : ℕ) (whole ss : List (Slot T)) (xs : List ℕ) (s t : Slot T) → is_width range ≡ true → Takes slot first whole ss xs s → t ≡ Taken (fresh first range value) → set ss slot t ≡ created range value whole
+pub created-taken : {T : Type 0} (range : ℕ) (value : T) (slot first : ℕ) (whole ss : List (Slot T)) (xs : List ℕ) (s t : Slot T) → is_width range ≡ true → Takes slot first whole ss xs s
+    → t ≡ Taken (fresh first range value) → set ss slot t ≡ created range value whole
 created-taken range value slot first whole ss xs s t w k u =
     change_within slot (λ x. Taken (fresh first range value)) ss s t k.read u
     ∙ sym (ap (λ zs. created range value zs) (sym k.same) ∙ ap (λ b. created_at b (lowest ss) range value ss) w ∙ ap (λ o. created_at true o range value ss) (place_of slot first whole ss xs s k))
@@ -158,5 +165,6 @@ created-full range value whole ss w same none =
     sym (ap (λ xs. created range value xs) (sym same) ∙ ap (λ b. created_at b (lowest ss) range value ss) w ∙ ap (λ o. created_at true o range value ss) none)
 
 -- the set once the lowest vacant slot was taken
-pub taken_listed : {T : Type 0} (slot first : ℕ) (whole ss : List (Slot T)) (s t : Slot T) (xs ys : List ℕ) → Takes slot first whole ss xs s → is_vacant t ≡ false → is_in ys slot ≡ false → ((k : ℕ) → k ≢ slot → is_in ys k ≡ is_in xs k) → IsListed (set ss slot t) ys
+pub taken_listed : {T : Type 0} (slot first : ℕ) (whole ss : List (Slot T)) (s t : Slot T) (xs ys : List ℕ) → Takes slot first whole ss xs s → is_vacant t ≡ false → is_in ys slot ≡ false
+    → ((k : ℕ) → k ≢ slot → is_in ys k ≡ is_in xs k) → IsListed (set ss slot t) ys
 taken_listed slot first whole ss s t xs ys k v out others = changed_listed slot ss t xs ys k.listed (least_within slot ss xs k.listed k.least) (out ∙ sym v) others

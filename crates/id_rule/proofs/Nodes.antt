@@ -122,7 +122,8 @@ module _ (k m c n : ℕ) (ws : List ℕ) (place : ℕ → Place) (to : Place) (s
 module _ {T E : Type 0} (log : T → List E) (first_id : T → ℕ) (rec : E → Option Receipt) where
   -- A step on a word of the node m, which is free or with the seat before and after
   pub node_steps : (sizes : Sizes) (s : State (Option T) (View E)) (m c n id : ℕ) (v w : View E) (to : Place) (kept : IsKept log first_id rec sizes s) → get_elem? s.views id ≡ some v
-      → 1 ≤ m → c < 2 → IsOwn id (kept.place m) → IsOwn id to → w.numbers ≡ v.numbers → w.sent ≡ v.sent → w.next ≡ v.next → w.parts ≡ v.parts → w.notices ≡ v.notices → (sizes.passes * sizes.nodes < m → to ≡ idle)
+      → 1 ≤ m → c < 2 → IsOwn id (kept.place m) → IsOwn id to → w.numbers ≡ v.numbers → w.sent ≡ v.sent → w.next ≡ v.next → w.parts ≡ v.parts → w.notices ≡ v.notices
+      → (sizes.passes * sizes.nodes < m → to ≡ idle)
       → HasInHand sizes.slots (set s.words (word_at sizes.slots m + c) n) (moved kept.place m to) id w.hand
       → IsTakenList sizes.slots (set s.words (word_at sizes.slots m + c) n) (moved kept.place m to) id w.taken
       → (m ≤ sizes.passes * sizes.nodes → IsNode sizes.slots (set s.words (word_at sizes.slots m + c) n) m (kept.at.2.holder (pass_of_node sizes.nodes m)) to)

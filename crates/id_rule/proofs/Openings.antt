@@ -119,7 +119,16 @@ nones_long T (suc n) = ap suc (nones_long T n)
 
 -- nothing is told yet
 abbrev pub untold : (E : Type 0) → ℕ → History E
-untold E nodes = record { numbered = λ s f a. []; last = λ s f. None; lost = λ s f. []; ender = λ s f. 0; sent = λ a. 0; notice = λ a n. record { slot = 0; first = 0; offset = 0; code = 0; receipt = record { pass = a; number = n } }; width = nodes }
+untold E nodes =
+    record {
+      numbered = λ s f a. [];
+      last = λ s f. None;
+      lost = λ s f. [];
+      ender = λ s f. 0;
+      sent = λ a. 0;
+      notice = λ a n. record { slot = 0; first = 0; offset = 0; code = 0; receipt = record { pass = a; number = n } };
+      width = nodes;
+    }
 
 -- a choice between equals
 same_if : {X : Type 0} (n m : ℕ) (x : X) → (if n == m then x else x) ≡ x

@@ -12,7 +12,8 @@ use Rattle.atomic_table.specs.Table.{step, keeps, Allows}
 use Rattle.atomic_table.proofs.Lists.{exchanged}
 use Rattle.rpc_model.specs.Gone.{code_in, range_in, first_in, head_in}
 use Rattle.id_rule.specs.Words.{packed_word}
-use Rattle.id_rule.specs.Nodes.{Place, idle, in_hand, in_queue, on_list, node_word, head_of, word_at, notice_of, offset_in, error_in, IsLinked, IsIn, IsWhole, IsTakenList, IsNonzero, IsPlaced, IsNode, pass_of_node, numbers_of}
+use Rattle.id_rule.specs.Nodes.{Place, idle, in_hand, in_queue, on_list, node_word, head_of, word_at, notice_of, offset_in, error_in, IsLinked, IsIn, IsWhole, IsTakenList, IsNonzero}
+use Rattle.id_rule.specs.Nodes.{IsPlaced, IsNode, pass_of_node, numbers_of}
 use Rattle.id_rule.specs.Receipts.{History, IsNoticed, HasSent, receipts_of_range, receipts_in, AreSettled}
 use Rattle.id_rule.specs.Parts.{HasNumber, part_of, HasLog, AreAll, own_number}
 use Rattle.id_rule.specs.Changes.{view_after_load, part_with_receipt, pushing_view}
@@ -32,7 +33,8 @@ use Rattle.id_rule.proofs.Steps.{StepKeeps, slot_moves}
 use Rattle.id_rule.specs.declared.rule.Sizes.{Sizes}
 use Rattle.id_rule.specs.declared.view.Part.{Part}
 use Rattle.id_rule.specs.declared.view.View.{View}
-use Rattle.id_rule.proofs.Numbering.{adds_none, bumped, counts_is, counts_other, counts_own, extra, extra_at, extra_else, extra_here, extra_range, extra_slot, joins_if, noticed_more, noticed_new, other_number, rises_more}
+use Rattle.id_rule.proofs.Numbering.{adds_none, bumped, counts_is, counts_other, counts_own, extra, extra_at, extra_else, extra_here, extra_range, extra_slot, joins_if, noticed_more}
+use Rattle.id_rule.proofs.Numbering.{noticed_new, other_number, rises_more}
 
 -- the head of a word that was put together
 pub head_is : (f r c h : ℕ) → r < 2048 → c < 8 → h < 65536 → head_in (packed_word f r c h) ≡ h
@@ -267,7 +269,8 @@ module _ {T E : Type 0} (log : T → List E) (first_id : T → ℕ) (rec : E →
           all_map (λ x. IsNoticed g (notice_of i r.first x)) (λ x. IsNoticed g' (notice_of i r.first x)) qs (λ x. noticed_more g new_one (notice_of i r.first x) (next ∙ mine_sent)) told.4,
         ),
       )
-      (λ slot p ne t. told_else g g' slot p (λ x. noticed_more g new_one x (next ∙ mine_sent)) refl (λ f a. sym (ap (λ y. g.numbered slot f a ++ y) (extra_slot i r.first rc slot f a ne) ∙ append-nil (g.numbered slot f a))) refl refl t)
+      (λ slot p ne t. told_else g g' slot p (λ x. noticed_more g new_one x (next ∙ mine_sent)) refl
+      (λ f a. sym (ap (λ y. g.numbered slot f a ++ y) (extra_slot i r.first rc slot f a ne) ∙ append-nil (g.numbered slot f a))) refl refl t)
       (λ slot f l e. subst (λ (z : ℕ → List ℕ). AreSettled z (receipts_in rec l) (g.lost slot f))
       (λ z a. (sym (ap (λ y. g.numbered slot f a ++ y) (none_ended slot f l e a) ∙ append-nil (g.numbered slot f a))) z) (kept.over slot f l e))
       (λ m. dite (ℕ_discrete m node) (λ e. subst (λ b. IsPlaced (length s.views) (if b then to else place m)) (sym (eq-eqb m node e)) tt)

@@ -71,7 +71,8 @@ module _ {T E : Type 0} (log : T → List E) (first_id : T → ℕ) (rec : E →
       → IsChained sizes.slots place' i s.words ph' → ((slot : ℕ) (p : Phase T E) → slot ≢ i → IsChained sizes.slots kept.place slot s.words p → IsChained sizes.slots place' slot s.words p)
       → IsTold log rec g' i ph' → ((slot : ℕ) (p : Phase T E) → slot ≢ i → IsTold log rec kept.history slot p → IsTold log rec g' slot p)
       → ((slot f : ℕ) (l : List E) → g'.last slot f ≡ Some l → AreSettled (g'.numbered slot f) (receipts_in rec l) (g'.lost slot f))
-      → ((m : ℕ) → IsPlaced (length s.views) (place' m)) → ((m : ℕ) → sizes.passes * sizes.nodes < m → place' m ≡ idle) → g'.width ≡ kept.history.width → ((slot f a : ℕ) → IsRisingBelow (g'.numbered slot f a) (g'.sent a))
+      → ((m : ℕ) → IsPlaced (length s.views) (place' m)) → ((m : ℕ) → sizes.passes * sizes.nodes < m → place' m ≡ idle) → g'.width ≡ kept.history.width
+      → ((slot f a : ℕ) → IsRisingBelow (g'.numbered slot f a) (g'.sent a))
       → ((a : ℕ) → kept.at.2.count ≤ a → g'.sent a ≡ 0) → ((by : ℕ) (u : View E) → get_elem? (set s.views id w) by ≡ some u → HasSent g'.sent u.numbers u.sent)
       → ((slot f : ℕ) → (g'.ender slot f < length s.views) × ((a : ℕ) → kept.at.2.count ≤ a → g'.numbered slot f a ≡ []))
       → ((by : ℕ) (u : View E) → get_elem? (set s.views id w) by ≡ some u → HasInHand sizes.slots s.words place' by u.hand)

@@ -74,7 +74,8 @@ unfolding lacks
 digit_lacks c n h = ap (λ (b : Bool). not b && true) (ne_eqb (48 + n) c (λ e. absurd (omega (arith, e, h))))
 
 pub decimal_lacks : (c n : ℕ) → c < 48 → n < 2 ^ 64 → lacks c (decimal n) ≡ true
-decimal_lacks c n h small = decimal_by_steps (λ k ds. lacks c ds ≡ true) (λ k lt. digit_lacks c k h) (λ k ds le so_far. lacks-append c ds ((48 + k % 10) ∷ []) so_far (digit_lacks c (k % 10) h)) n small
+decimal_lacks c n h small =
+    decimal_by_steps (λ k ds. lacks c ds ≡ true) (λ k lt. digit_lacks c k h) (λ k ds le so_far. lacks-append c ds ((48 + k % 10) ∷ []) so_far (digit_lacks c (k % 10) h)) n small
 
 index_lacks : (c : ℕ) (t : List ℕ) (k : ℕ) → lacks c t ≡ true → (0 == c) ≡ false → (slice_index t k == c) ≡ false
 unfolding lacks

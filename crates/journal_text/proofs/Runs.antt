@@ -1,5 +1,6 @@
 -- The lines of a journal, one after the other, make it again.
-use Rattle.std.proofs.Common.{◌≡◌, ℕ, ◌+◌, ◌<◌, ◌≤◌, Bool, true, ◌||◌, ◌==◌, eqb, ltb, List, [], ◌∷◌, ◌++◌, length, map, Option, Some, None, Result, Ok, refl, ap, sym, ◌∙◌, arith, eq-eqb, append_assoc, append-nil, codes}
+use Rattle.std.proofs.Common.{◌≡◌, ℕ, ◌+◌, ◌<◌, ◌≤◌, Bool, true, ◌||◌, ◌==◌, eqb, ltb, List, [], ◌∷◌, ◌++◌, length, map, Option, Some, None, Result, Ok, refl, ap, sym, ◌∙◌, arith, eq-eqb}
+use Rattle.std.proofs.Common.{append_assoc, append-nil, codes}
 use Rattle.std.specs.List.{flat_map, slice_split, AllByRecursion}
 use Rattle.std.specs.Prelude.{IsTrue}
 use Rattle.std.proofs.lemmas.Bool.{lt-ltb}
@@ -44,22 +45,31 @@ entries_run d c (e ∷ es) rest =
     entries_run d (record c { log = c.log ++ e ∷ [] }) es rest ∙ ap (λ (l : List Entry). run (record d { stage = Calls; call = Some (record c { log = l }) }) rest) (append_assoc c.log (e ∷ []) es)
 
 outs_run : (d : Draft) (how : How) (o xs : List Sent) (rest : List Line)
-    → run (record d { stage = Wires; wire = Some (record { how = how; out = o; came = []; losses = [] }) }) (map line.Out xs ++ rest) ≡ run (record d { stage = Wires; wire = Some (record { how = how; out = o ++ xs; came = []; losses = [] }) }) rest
+    → run (record d { stage = Wires; wire = Some (record { how = how; out = o; came = []; losses = [] }) }) (map line.Out xs ++ rest) ≡ run
+    (record d { stage = Wires; wire = Some (record { how = how; out = o ++ xs; came = []; losses = [] }) }) rest
 unfolding with_line
 outs_run d how o [] rest = ap (λ (l : List Sent). run (record d { stage = Wires; wire = Some (record { how = how; out = l; came = []; losses = [] }) }) rest) (sym (append-nil o))
-outs_run d how o (x ∷ xs) rest = outs_run d how (o ++ x ∷ []) xs rest ∙ ap (λ (l : List Sent). run (record d { stage = Wires; wire = Some (record { how = how; out = l; came = []; losses = [] }) }) rest) (append_assoc o (x ∷ []) xs)
+outs_run d how o (x ∷ xs) rest =
+    outs_run d how (o ++ x ∷ []) xs rest
+    ∙ ap (λ (l : List Sent). run (record d { stage = Wires; wire = Some (record { how = how; out = l; came = []; losses = [] }) }) rest) (append_assoc o (x ∷ []) xs)
 
 ins_run : (d : Draft) (how : How) (o : List Sent) (c xs : List Came) (rest : List Line)
-    → run (record d { stage = Wires; wire = Some (record { how = how; out = o; came = c; losses = [] }) }) (map line.In xs ++ rest) ≡ run (record d { stage = Wires; wire = Some (record { how = how; out = o; came = c ++ xs; losses = [] }) }) rest
+    → run (record d { stage = Wires; wire = Some (record { how = how; out = o; came = c; losses = [] }) }) (map line.In xs ++ rest) ≡ run
+    (record d { stage = Wires; wire = Some (record { how = how; out = o; came = c ++ xs; losses = [] }) }) rest
 unfolding with_line
 ins_run d how o c [] rest = ap (λ (l : List Came). run (record d { stage = Wires; wire = Some (record { how = how; out = o; came = l; losses = [] }) }) rest) (sym (append-nil c))
-ins_run d how o c (x ∷ xs) rest = ins_run d how o (c ++ x ∷ []) xs rest ∙ ap (λ (l : List Came). run (record d { stage = Wires; wire = Some (record { how = how; out = o; came = l; losses = [] }) }) rest) (append_assoc c (x ∷ []) xs)
+ins_run d how o c (x ∷ xs) rest =
+    ins_run d how o (c ++ x ∷ []) xs rest
+    ∙ ap (λ (l : List Came). run (record d { stage = Wires; wire = Some (record { how = how; out = o; came = l; losses = [] }) }) rest) (append_assoc c (x ∷ []) xs)
 
 losses_run : (d : Draft) (how : How) (o : List Sent) (c : List Came) (l xs : List LossNote) (rest : List Line)
-    → run (record d { stage = Wires; wire = Some (record { how = how; out = o; came = c; losses = l }) }) (map line.Loss xs ++ rest) ≡ run (record d { stage = Wires; wire = Some (record { how = how; out = o; came = c; losses = l ++ xs }) }) rest
+    → run (record d { stage = Wires; wire = Some (record { how = how; out = o; came = c; losses = l }) }) (map line.Loss xs ++ rest) ≡ run
+    (record d { stage = Wires; wire = Some (record { how = how; out = o; came = c; losses = l ++ xs }) }) rest
 unfolding with_line
 losses_run d how o c l [] rest = ap (λ (k : List LossNote). run (record d { stage = Wires; wire = Some (record { how = how; out = o; came = c; losses = k }) }) rest) (sym (append-nil l))
-losses_run d how o c l (x ∷ xs) rest = losses_run d how o c (l ++ x ∷ []) xs rest ∙ ap (λ (k : List LossNote). run (record d { stage = Wires; wire = Some (record { how = how; out = o; came = c; losses = k }) }) rest) (append_assoc l (x ∷ []) xs)
+losses_run d how o c l (x ∷ xs) rest =
+    losses_run d how o c (l ++ x ∷ []) xs rest
+    ∙ ap (λ (k : List LossNote). run (record d { stage = Wires; wire = Some (record { how = how; out = o; came = c; losses = k }) }) rest) (append_assoc l (x ∷ []) xs)
 
 marks_run : (d : Draft) (ms xs : List Fired) (rest : List Line) → run (record d { stage = Marks; marks = ms }) (map line.Mark xs ++ rest) ≡ run (record d { stage = Marks; marks = ms ++ xs }) rest
 unfolding with_line
@@ -70,7 +80,8 @@ cancels_run : (d : Draft) (cs xs : List CancelNote) (rest : List Line)
     → run (record d { stage = Lanes; lane = Some (record { cancels = cs }) }) (map line.Cancel xs ++ rest) ≡ run (record d { stage = Lanes; lane = Some (record { cancels = cs ++ xs }) }) rest
 unfolding with_line
 cancels_run d cs [] rest = ap (λ (l : List CancelNote). run (record d { stage = Lanes; lane = Some (record { cancels = l }) }) rest) (sym (append-nil cs))
-cancels_run d cs (x ∷ xs) rest = cancels_run d (cs ++ x ∷ []) xs rest ∙ ap (λ (l : List CancelNote). run (record d { stage = Lanes; lane = Some (record { cancels = l }) }) rest) (append_assoc cs (x ∷ []) xs)
+cancels_run d cs (x ∷ xs) rest =
+    cancels_run d (cs ++ x ∷ []) xs rest ∙ ap (λ (l : List CancelNote). run (record d { stage = Lanes; lane = Some (record { cancels = l }) }) rest) (append_assoc cs (x ∷ []) xs)
 
 -- ---- the parts
 
@@ -108,7 +119,8 @@ abbrev pub AfterWires : Draft → Stage → List WireLog → Option WireLog → 
 AfterWires d s xs o n ws rest = (t : Stage) × (ys : List WireLog) × (p : Option WireLog) × ((is_calls t || is_wires t) ≡ true) × (with_last ys p ≡ with_last xs o ++ ws)
     × (run (record d { stage = s; wires = xs; wire = o }) (wire_lines n ws ++ rest) ≡ run (record d { stage = t; wires = ys; wire = p }) rest)
 
-wires_run : (d : Draft) (s : Stage) (xs : List WireLog) (o : Option WireLog) (n : ℕ) (ws : List WireLog) (rest : List Line) → (is_calls s || is_wires s) ≡ true → n ≡ length (with_last xs o) → AfterWires d s xs o n ws rest
+wires_run : (d : Draft) (s : Stage) (xs : List WireLog) (o : Option WireLog) (n : ℕ) (ws : List WireLog) (rest : List Line) → (is_calls s || is_wires s) ≡ true → n ≡ length (with_last xs o)
+    → AfterWires d s xs o n ws rest
 wires_run d s xs o n [] rest may is = (s, xs, o, may, sym (append-nil (with_last xs o)), refl)
 wires_run d s xs o n (w ∷ ws) rest may is =
     let zs : List WireLog = with_last xs o in
@@ -125,7 +137,8 @@ wires_run d s xs o n (w ∷ ws) rest may is =
           ∙ (ap (λ (x : Option Draft). x >>= λ f. run f (lists ++ more)) (wire_taken s d xs o n w.how may is)
           ∙ (ap (λ (ls : List Line). run (record e { stage = Wires; wire = Some (no_lists w.how) }) ls)
           (append_assoc (map line.Out w.out ++ map line.In w.came) (map line.Loss w.losses) more ∙ append_assoc (map line.Out w.out) (map line.In w.came) (map line.Loss w.losses ++ more))
-          ∙ (outs_run e w.how [] w.out (map line.In w.came ++ (map line.Loss w.losses ++ more)) ∙ (ins_run e w.how w.out [] w.came (map line.Loss w.losses ++ more) ∙ (losses_run e w.how w.out w.came [] w.losses more ∙ others.5))))),
+          ∙ (outs_run e w.how [] w.out (map line.In w.came ++ (map line.Loss w.losses ++ more))
+          ∙ (ins_run e w.how w.out [] w.came (map line.Loss w.losses ++ more) ∙ (losses_run e w.how w.out w.came [] w.losses more ∙ others.5))))),
     )
 
 lane_taken : (s : Stage) (d : Draft) (xs : List LaneLog) (o : Option LaneLog) (n : ℕ) → (is_marks s || is_lanes s) ≡ true → n ≡ length (with_last xs o) → n < 16
@@ -173,13 +186,15 @@ journal_same : (a b : List CallLog) (c d : List WireLog) (m : List Fired) (e f :
     → record { calls = a; wires = c; marks = m; lanes = e } ≡ (let j : Journal = record { calls = b; wires = d; marks = m; lanes = f } in j)
 journal_same a b c d m e f p q r =
     ap (λ (x : List CallLog). let j : Journal = record { calls = x; wires = c; marks = m; lanes = e } in j) p
-    ∙ (ap (λ (x : List WireLog). let j : Journal = record { calls = b; wires = x; marks = m; lanes = e } in j) q ∙ ap (λ (x : List LaneLog). let j : Journal = record { calls = b; wires = d; marks = m; lanes = x } in j) r)
+    ∙ (ap (λ (x : List WireLog). let j : Journal = record { calls = b; wires = x; marks = m; lanes = e } in j) q
+    ∙ ap (λ (x : List LaneLog). let j : Journal = record { calls = b; wires = d; marks = m; lanes = x } in j) r)
 
 -- a draft that is this journal, and may end
 abbrev pub Makes : Journal → Type 0
 Makes j = (d : Draft) × (run begun (journal_lines j) ≡ Some d) × (d.stage ≡ Lanes) × (journal_of_draft d ≡ j)
 
-makes : (calls : List CallLog) (wires : List WireLog) (marks : List Fired) (lanes : List LaneLog) → 1 ≤ length lanes → length lanes ≤ 16 → Makes (record { calls = calls; wires = wires; marks = marks; lanes = lanes })
+makes : (calls : List CallLog) (wires : List WireLog) (marks : List Fired) (lanes : List LaneLog) → 1 ≤ length lanes → length lanes ≤ 16
+    → Makes (record { calls = calls; wires = wires; marks = marks; lanes = lanes })
 unfolding journal_lines
 makes calls wires marks [] some few = absurd (omega (arith, some))
 makes calls wires marks (l ∷ ls) some few =
@@ -210,7 +225,8 @@ pieces_are (l ∷ ls) t =
     ap (λ (x : List ℕ). slice_split (λ b. b == 10) x) (append_assoc (line_text l) (codes "\n") (text_of ls))
     ∙ (split_front 10 (line_text l) (text_of ls) (line_lacks l t.0) ∙ ap (λ (ps : List (List ℕ)). line_text l ∷ ps) (pieces_are ls t.1))
 
-next_taken : (o : Option Draft) (d' : Draft) (n : ℕ) (ls : List Line) (all : Result Journal ℕ) → (o >>= λ e. run e ls) ≡ Some d' → ((e : Draft) → run e ls ≡ Some d' → with_pieces e (n + 1) (map line_text ls ++ [] ∷ []) ≡ all)
+next_taken : (o : Option Draft) (d' : Draft) (n : ℕ) (ls : List Line) (all : Result Journal ℕ) → (o >>= λ e. run e ls) ≡ Some d'
+    → ((e : Draft) → run e ls ≡ Some d' → with_pieces e (n + 1) (map line_text ls ++ [] ∷ []) ≡ all)
     → or_else o n (λ next. with_pieces next (n + 1) (map line_text ls ++ [] ∷ [])) ≡ all
 next_taken None d' n ls all h others = absurd cc
 next_taken (Some e) d' n ls all h others = others e h
@@ -219,7 +235,8 @@ some_is : (x y : Draft) → Some x ≡ Some y → x ≡ y
 some_is x y e = cc
 
 -- all lines are taken
-lines_taken : (d d' : Draft) (n : ℕ) (ls : List Line) → AllByRecursion IsTypedLine ls → AllByRecursion (λ l. IsTrue (is_line l)) ls → run d ls ≡ Some d' → with_pieces d n (map line_text ls ++ [] ∷ []) ≡ finished d' (n + length ls) []
+lines_taken : (d d' : Draft) (n : ℕ) (ls : List Line) → AllByRecursion IsTypedLine ls → AllByRecursion (λ l. IsTrue (is_line l)) ls → run d ls ≡ Some d'
+    → with_pieces d n (map line_text ls ++ [] ∷ []) ≡ finished d' (n + length ls) []
 lines_taken d d' n [] t k h =
     pieces_last d n [] ∙ (ap (λ (e : Draft). finished e n []) (some_is d d' h) ∙ ap (λ (m : ℕ). finished d' m []) (let e : n ≡ n + 0 = omega arith in e))
 lines_taken d d' n (l ∷ ls) t k h =

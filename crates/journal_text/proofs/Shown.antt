@@ -1,5 +1,6 @@
 -- The lines that a draft has taken are the lines of its journal.
-use Rattle.std.proofs.Common.{◌≡◌, ℕ, ◌+◌, ◌<◌, ◌≤◌, Bool, true, false, ◌&&◌, eqb, ltb, List, [], ◌∷◌, ◌++◌, length, map, Option, Some, None, refl, ap, sym, subst, ◌∙◌, arith, append_assoc, append-nil}
+use Rattle.std.proofs.Common.{◌≡◌, ℕ, ◌+◌, ◌<◌, ◌≤◌, Bool, true, false, ◌&&◌, eqb, ltb, List, [], ◌∷◌, ◌++◌, length, map, Option, Some, None, refl, ap, sym, subst, ◌∙◌, arith, append_assoc}
+use Rattle.std.proofs.Common.{append-nil}
 use Rattle.std.specs.List.{flat_map}
 use Rattle.std.proofs.lemmas.Bool.{eqb-true, ltb-true}
 use Rattle.std.proofs.lemmas.Grind.{flat_map-append}
@@ -92,26 +93,30 @@ behind : (before block : List Line) (l : Line) → before ++ (block ++ l ∷ [])
 behind before block l = sym (append_assoc before block (l ∷ []))
 
 -- the last wire has one more line
-wire_grew : (before : List Line) (xs : List WireLog) (w w' : WireLog) (l : Line) → ((n : ℕ) → one_wire n w' ≡ one_wire n w ++ l ∷ []) → before ++ wire_lines 0 (xs ++ w' ∷ []) ≡ before ++ wire_lines 0 (xs ++ w ∷ []) ++ l ∷ []
+wire_grew : (before : List Line) (xs : List WireLog) (w w' : WireLog) (l : Line) → ((n : ℕ) → one_wire n w' ≡ one_wire n w ++ l ∷ [])
+    → before ++ wire_lines 0 (xs ++ w' ∷ []) ≡ before ++ wire_lines 0 (xs ++ w ∷ []) ++ l ∷ []
 wire_grew before xs w w' l more =
     ap (λ (t : List Line). before ++ t) (wire_last 0 xs w' ∙ (ap (λ (t : List Line). wire_lines 0 xs ++ t) (more (0 + length xs)) ∙ (behind (wire_lines 0 xs) (one_wire (0 + length xs) w) l
     ∙ ap (λ (t : List Line). t ++ l ∷ []) (sym (wire_last 0 xs w))))) ∙ behind before (wire_lines 0 (xs ++ w ∷ [])) l
 
-lane_grew : (before : List Line) (xs : List LaneLog) (w w' : LaneLog) (l : Line) → ((n : ℕ) → one_lane n w' ≡ one_lane n w ++ l ∷ []) → before ++ lane_lines 0 (xs ++ w' ∷ []) ≡ before ++ lane_lines 0 (xs ++ w ∷ []) ++ l ∷ []
+lane_grew : (before : List Line) (xs : List LaneLog) (w w' : LaneLog) (l : Line) → ((n : ℕ) → one_lane n w' ≡ one_lane n w ++ l ∷ [])
+    → before ++ lane_lines 0 (xs ++ w' ∷ []) ≡ before ++ lane_lines 0 (xs ++ w ∷ []) ++ l ∷ []
 lane_grew before xs w w' l more =
     ap (λ (t : List Line). before ++ t) (lane_last 0 xs w' ∙ (ap (λ (t : List Line). lane_lines 0 xs ++ t) (more (0 + length xs)) ∙ (behind (lane_lines 0 xs) (one_lane (0 + length xs) w) l
     ∙ ap (λ (t : List Line). t ++ l ∷ []) (sym (lane_last 0 xs w))))) ∙ behind before (lane_lines 0 (xs ++ w ∷ [])) l
 
 -- ---- line by line
 
-took_call : (s : Stage) (d d' : Draft) (a b c e m : ℕ) → IsKept s (record d { stage = s }) → with_call (record d { stage = s }) a b c e m ≡ Some d' → Took (record d { stage = s }) d' (line.Call a b c e m)
+took_call : (s : Stage) (d d' : Draft) (a b c e m : ℕ) → IsKept s (record d { stage = s }) → with_call (record d { stage = s }) a b c e m ≡ Some d'
+    → Took (record d { stage = s }) d' (line.Call a b c e m)
 took_call Calls d d' a b c e m k h =
     took _ _ d' _ (record { lines = flat_map-append call_lines (calls_of d) (record { call = a; first = b; width = c; lane = e; moment = m; log = [] } ∷ []); kept = k }) (some_is _ d' h)
 took_call Wires d d' a b c e m k h = absurd cc
 took_call Marks d d' a b c e m k h = absurd cc
 took_call Lanes d d' a b c e m k h = absurd cc
 
-took_entry : (s : Stage) (o : Option CallLog) (d d' : Draft) (e : Entry) → IsKept s (record d { stage = s; call = o }) → with_entry (record d { stage = s; call = o }) e ≡ Some d' → Took (record d { stage = s; call = o }) d' (line.Entry e)
+took_entry : (s : Stage) (o : Option CallLog) (d d' : Draft) (e : Entry) → IsKept s (record d { stage = s; call = o }) → with_entry (record d { stage = s; call = o }) e ≡ Some d'
+    → Took (record d { stage = s; call = o }) d' (line.Entry e)
 took_entry Calls None d d' e k h = absurd cc
 took_entry Calls (Some c) d d' e k h =
     let c' : CallLog = record c { log = c.log ++ e ∷ [] } in
@@ -128,7 +133,8 @@ took_entry Lanes o d d' e k h = absurd cc
 wire_begins : (before : List Line) (xs : List WireLog) (n : ℕ) (how : How) → n ≡ length xs
     → before ++ wire_lines 0 (xs ++ record { how = how; out = []; came = []; losses = [] } ∷ []) ≡ before ++ wire_lines 0 xs ++ line.Wire n how ∷ []
 wire_begins before xs n how e =
-    ap (λ (t : List Line). before ++ t) (wire_last 0 xs _ ∙ ap (λ (m : ℕ). wire_lines 0 xs ++ line.Wire m how ∷ []) (let z : 0 + length xs ≡ n = omega (arith, e) in z)) ∙ behind before (wire_lines 0 xs) (line.Wire n how)
+    ap (λ (t : List Line). before ++ t) (wire_last 0 xs _ ∙ ap (λ (m : ℕ). wire_lines 0 xs ++ line.Wire m how ∷ []) (let z : 0 + length xs ≡ n = omega (arith, e) in z))
+    ∙ behind before (wire_lines 0 xs) (line.Wire n how)
 
 took_wire : (s : Stage) (d d' : Draft) (n : ℕ) (how : How) → IsKept s (record d { stage = s }) → with_wire (record d { stage = s }) n how ≡ Some d' → Took (record d { stage = s }) d' (line.Wire n how)
 took_wire Calls d d' n how k h =
@@ -147,14 +153,17 @@ took_wire Lanes d d' n how k h = absurd cc
 out_more : (how : How) (o : List Sent) (came : List Came) (losses : List LossNote) (s : Sent) → (is_empty came && is_empty losses) ≡ true → (n : ℕ)
     → one_wire n (record { how = how; out = o ++ s ∷ []; came = came; losses = losses }) ≡ one_wire n (record { how = how; out = o; came = came; losses = losses }) ++ line.Out s ∷ []
 out_more how o [] [] s h n =
-    ap (λ (t : List Line). line.Wire n how ∷ t) (append-nil _ ∙ (append-nil _ ∙ (map-append line.Out o (s ∷ []) ∙ ap (λ (t : List Line). t ++ line.Out s ∷ []) (sym (append-nil (map line.Out o ++ []) ∙ append-nil (map line.Out o))))))
+    ap (λ (t : List Line). line.Wire n how ∷ t) (append-nil _
+    ∙ (append-nil _ ∙ (map-append line.Out o (s ∷ []) ∙ ap (λ (t : List Line). t ++ line.Out s ∷ []) (sym (append-nil (map line.Out o ++ []) ∙ append-nil (map line.Out o))))))
 out_more how o [] (l ∷ losses) s h n = absurd cc
 out_more how o (c ∷ came) losses s h n = absurd cc
 
-took_out : (s : Stage) (o : Option WireLog) (d d' : Draft) (x : Sent) → IsKept s (record d { stage = s; wire = o }) → with_out (record d { stage = s; wire = o }) x ≡ Some d' → Took (record d { stage = s; wire = o }) d' (line.Out x)
+took_out : (s : Stage) (o : Option WireLog) (d d' : Draft) (x : Sent) → IsKept s (record d { stage = s; wire = o }) → with_out (record d { stage = s; wire = o }) x ≡ Some d'
+    → Took (record d { stage = s; wire = o }) d' (line.Out x)
 took_out Wires (Some w) d d' x k h =
     let p = guarded (is_empty w.came && is_empty w.losses) _ d' h in
-    took _ _ d' _ (record { lines = wire_grew (flat_map call_lines (calls_of d)) d.wires w (record w { out = w.out ++ x ∷ [] }) (line.Out x) (out_more w.how w.out w.came w.losses x p.0); kept = k }) p.1
+    took _ _ d' _
+    (record { lines = wire_grew (flat_map call_lines (calls_of d)) d.wires w (record w { out = w.out ++ x ∷ [] }) (line.Out x) (out_more w.how w.out w.came w.losses x p.0); kept = k }) p.1
 took_out Wires None d d' x k h = absurd cc
 took_out Calls o d d' x k h = absurd cc
 took_out Marks o d d' x k h = absurd cc
@@ -163,14 +172,17 @@ took_out Lanes o d d' x k h = absurd cc
 in_more : (how : How) (o : List Sent) (came : List Came) (losses : List LossNote) (c : Came) → is_empty losses ≡ true → (n : ℕ)
     → one_wire n (record { how = how; out = o; came = came ++ c ∷ []; losses = losses }) ≡ one_wire n (record { how = how; out = o; came = came; losses = losses }) ++ line.In c ∷ []
 in_more how o came [] c h n =
-    ap (λ (t : List Line). line.Wire n how ∷ t) (append-nil _ ∙ (ap (λ (t : List Line). map line.Out o ++ t) (map-append line.In came (c ∷ [])) ∙ (behind (map line.Out o) (map line.In came) (line.In c)
+    ap (λ (t : List Line). line.Wire n how ∷ t) (append-nil _
+    ∙ (ap (λ (t : List Line). map line.Out o ++ t) (map-append line.In came (c ∷ [])) ∙ (behind (map line.Out o) (map line.In came) (line.In c)
     ∙ ap (λ (t : List Line). t ++ line.In c ∷ []) (sym (append-nil (map line.Out o ++ map line.In came))))))
 in_more how o came (l ∷ losses) c h n = absurd cc
 
-took_in : (s : Stage) (o : Option WireLog) (d d' : Draft) (x : Came) → IsKept s (record d { stage = s; wire = o }) → with_came (record d { stage = s; wire = o }) x ≡ Some d' → Took (record d { stage = s; wire = o }) d' (line.In x)
+took_in : (s : Stage) (o : Option WireLog) (d d' : Draft) (x : Came) → IsKept s (record d { stage = s; wire = o }) → with_came (record d { stage = s; wire = o }) x ≡ Some d'
+    → Took (record d { stage = s; wire = o }) d' (line.In x)
 took_in Wires (Some w) d d' x k h =
     let p = guarded (is_empty w.losses) _ d' h in
-    took _ _ d' _ (record { lines = wire_grew (flat_map call_lines (calls_of d)) d.wires w (record w { came = w.came ++ x ∷ [] }) (line.In x) (in_more w.how w.out w.came w.losses x p.0); kept = k }) p.1
+    took _ _ d' _
+    (record { lines = wire_grew (flat_map call_lines (calls_of d)) d.wires w (record w { came = w.came ++ x ∷ [] }) (line.In x) (in_more w.how w.out w.came w.losses x p.0); kept = k }) p.1
 took_in Wires None d d' x k h = absurd cc
 took_in Calls o d d' x k h = absurd cc
 took_in Marks o d d' x k h = absurd cc
@@ -179,11 +191,15 @@ took_in Lanes o d d' x k h = absurd cc
 loss_more : (how : How) (o : List Sent) (came : List Came) (losses : List LossNote) (l : LossNote) (n : ℕ)
     → one_wire n (record { how = how; out = o; came = came; losses = losses ++ l ∷ [] }) ≡ one_wire n (record { how = how; out = o; came = came; losses = losses }) ++ line.Loss l ∷ []
 loss_more how o came losses l n =
-    ap (λ (t : List Line). line.Wire n how ∷ t) (ap (λ (t : List Line). map line.Out o ++ map line.In came ++ t) (map-append line.Loss losses (l ∷ [])) ∙ behind (map line.Out o ++ map line.In came) (map line.Loss losses) (line.Loss l))
+    ap (λ (t : List Line). line.Wire n how ∷ t) (ap (λ (t : List Line). map line.Out o ++ map line.In came ++ t) (map-append line.Loss losses (l ∷ []))
+    ∙ behind (map line.Out o ++ map line.In came) (map line.Loss losses) (line.Loss l))
 
-took_loss : (s : Stage) (o : Option WireLog) (d d' : Draft) (x : LossNote) → IsKept s (record d { stage = s; wire = o }) → with_loss (record d { stage = s; wire = o }) x ≡ Some d' → Took (record d { stage = s; wire = o }) d' (line.Loss x)
+took_loss : (s : Stage) (o : Option WireLog) (d d' : Draft) (x : LossNote) → IsKept s (record d { stage = s; wire = o }) → with_loss (record d { stage = s; wire = o }) x ≡ Some d'
+    → Took (record d { stage = s; wire = o }) d' (line.Loss x)
 took_loss Wires (Some w) d d' x k h =
-    took _ _ d' _ (record { lines = wire_grew (flat_map call_lines (calls_of d)) d.wires w (record w { losses = w.losses ++ x ∷ [] }) (line.Loss x) (loss_more w.how w.out w.came w.losses x); kept = k }) (some_is _ d' h)
+    took _ _ d' _
+    (record { lines = wire_grew (flat_map call_lines (calls_of d)) d.wires w (record w { losses = w.losses ++ x ∷ [] }) (line.Loss x) (loss_more w.how w.out w.came w.losses x); kept = k })
+    (some_is _ d' h)
 took_loss Wires None d d' x k h = absurd cc
 took_loss Calls o d d' x k h = absurd cc
 took_loss Marks o d d' x k h = absurd cc
@@ -213,7 +229,8 @@ took_mark Lanes d d' m k h = absurd cc
 
 lane_begins : (before : List Line) (xs : List LaneLog) (n : ℕ) → n ≡ length xs → before ++ lane_lines 0 (xs ++ record { cancels = [] } ∷ []) ≡ before ++ lane_lines 0 xs ++ line.Lane n ∷ []
 lane_begins before xs n e =
-    ap (λ (t : List Line). before ++ t) (lane_last 0 xs _ ∙ ap (λ (m : ℕ). lane_lines 0 xs ++ line.Lane m ∷ []) (let z : 0 + length xs ≡ n = omega (arith, e) in z)) ∙ behind before (lane_lines 0 xs) (line.Lane n)
+    ap (λ (t : List Line). before ++ t) (lane_last 0 xs _ ∙ ap (λ (m : ℕ). lane_lines 0 xs ++ line.Lane m ∷ []) (let z : 0 + length xs ≡ n = omega (arith, e) in z))
+    ∙ behind before (lane_lines 0 xs) (line.Lane n)
 
 few_more : (xs : List LaneLog) (x : LaneLog) (n : ℕ) → n ≡ length xs → n < 16 → (1 ≤ length (xs ++ x ∷ [])) × (length (xs ++ x ∷ []) ≤ 16)
 few_more xs x n e h = (omega (arith, length-append xs (x ∷ [])), omega (arith, e, h, length-append xs (x ∷ [])))
@@ -238,7 +255,8 @@ took_lane Wires d d' n k h = absurd cc
 same_length : (xs : List LaneLog) (x y : LaneLog) → (1 ≤ length (xs ++ x ∷ [])) × (length (xs ++ x ∷ []) ≤ 16) → (1 ≤ length (xs ++ y ∷ [])) × (length (xs ++ y ∷ []) ≤ 16)
 same_length xs x y k = (omega (arith, k.0, length-append xs (x ∷ []), length-append xs (y ∷ [])), omega (arith, k.1, length-append xs (x ∷ []), length-append xs (y ∷ [])))
 
-took_cancel : (s : Stage) (o : Option LaneLog) (d d' : Draft) (x : CancelNote) → IsKept s (record d { stage = s; lane = o }) → with_cancel (record d { stage = s; lane = o }) x ≡ Some d' → Took (record d { stage = s; lane = o }) d' (line.Cancel x)
+took_cancel : (s : Stage) (o : Option LaneLog) (d d' : Draft) (x : CancelNote) → IsKept s (record d { stage = s; lane = o }) → with_cancel (record d { stage = s; lane = o }) x ≡ Some d'
+    → Took (record d { stage = s; lane = o }) d' (line.Cancel x)
 took_cancel Lanes (Some l) d d' x k h =
     let before : List Line = flat_map call_lines (calls_of d) ++ wire_lines 0 (wires_of d) ++ (line.Timer ∷ []) ++ map line.Mark d.marks in
     took _ _ d' _ (record {

@@ -1,5 +1,6 @@
 -- What is read is the text of the journal that it is read as.
-use Rattle.std.proofs.Common.{◌≡◌, ℕ, ◌+◌, Bool, true, false, cond, ◌&&◌, ◌==◌, List, [], ◌∷◌, ◌++◌, Option, Some, None, Result, Ok, refl, ap, sym, subst, ◌∙◌, rules, append_assoc, append-nil, codes, bytes_eq}
+use Rattle.std.proofs.Common.{◌≡◌, ℕ, ◌+◌, Bool, true, false, cond, ◌&&◌, ◌==◌, List, [], ◌∷◌, ◌++◌, Option, Some, None, Result, Ok, refl, ap, sym, subst, ◌∙◌, rules, append_assoc}
+use Rattle.std.proofs.Common.{append-nil, codes, bytes_eq}
 use Rattle.std.specs.Prelude.{IsTrue}
 use Rattle.std.specs.List.{join_with_byte, slice_split}
 use Rattle.std.proofs.lemmas.Bool.{and_parts}
@@ -93,7 +94,8 @@ spells_pieces d n (t ∷ u ∷ us) j g h =
     let q = text_taken d p.0 t g p.1 in
     let r = spells_pieces p.0 (n + 1) (u ∷ us) j q.0 p.2 in
     let rest : List ℕ = join_with_byte 10 (u ∷ us) in (
-      ap (λ (x : List ℕ). text_of (lines_of d) ++ x) (sym (append_assoc t (codes "\n") rest)) ∙ (sym (append_assoc (text_of (lines_of d)) (t ++ codes "\n") rest) ∙ (ap (λ (x : List ℕ). x ++ rest) (sym q.1) ∙ r.0)),
+      ap (λ (x : List ℕ). text_of (lines_of d) ++ x) (sym (append_assoc t (codes "\n") rest))
+          ∙ (sym (append_assoc (text_of (lines_of d)) (t ++ codes "\n") rest) ∙ (ap (λ (x : List ℕ). x ++ rest) (sym q.1) ∙ r.0)),
       r.1,
     )
 

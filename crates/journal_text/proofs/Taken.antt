@@ -1,5 +1,6 @@
 -- The lines of a text that were taken, and those that are left.
-use Rattle.std.proofs.Common.{◌≡◌, ℕ, ◌+◌, ◌<◌, ◌≤◌, Bool, true, false, cond, ◌&&◌, ◌==◌, List, [], ◌∷◌, ◌++◌, length, get_or, drop, map, Option, Some, None, Result, Ok, Err, Bor, refl, ap, sym, subst, ◌∙◌}
+use Rattle.std.proofs.Common.{◌≡◌, ℕ, ◌+◌, ◌<◌, ◌≤◌, Bool, true, false, cond, ◌&&◌, ◌==◌, List, [], ◌∷◌, ◌++◌, length, get_or, drop, map, Option, Some, None, Result, Ok, Err, Bor, refl, ap}
+use Rattle.std.proofs.Common.{sym, subst, ◌∙◌}
 use Rattle.std.proofs.lemmas.List.{at_drop_more, at_drop_all, map-append}
 use Rattle.std.specs.List.{slice_split}
 use Rattle.rpc_model.specs.declared.journal.Journal.{Journal}
@@ -72,7 +73,8 @@ reads_bad (fault.Bad m) n says e is = is ∙ ap (λ (k : ℕ). Err k) (sym e)
 reads_bad fault.Memory n says e is = tt
 
 -- the pieces of a text are its lines and what stands behind them
-pub text_is : (bytes : List ℕ) (pieces slice lines : List (Bor (List ℕ))) (rest : Bor (List ℕ)) → map (λ t. t.now) pieces ≡ slice_split (λ b. b == 10) bytes → slice ≡ pieces → slice ≡ lines ++ rest ∷ []
+pub text_is : (bytes : List ℕ) (pieces slice lines : List (Bor (List ℕ))) (rest : Bor (List ℕ)) → map (λ t. t.now) pieces ≡ slice_split (λ b. b == 10) bytes → slice ≡ pieces
+    → slice ≡ lines ++ rest ∷ []
     → journal_of bytes ≡ with_pieces begun 1 (map (λ t. t.now) lines ++ rest.now ∷ [])
 unfolding journal_of
 text_is bytes pieces slice lines rest cut same parts =

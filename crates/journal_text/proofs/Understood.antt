@@ -1,5 +1,6 @@
 -- A line that is written is read as itself.
-use Rattle.std.proofs.Common.{◌≡◌, ℕ, ◌+◌, ◌%◌, ◌^◌, ◌<◌, ◌≤◌, Bool, true, false, not, cond, ◌&&◌, ◌==◌, nat_le, List, [], ◌∷◌, ◌++◌, Option, Some, None, refl, ap, ◌∙◌, rules, arith, codes, bytes_eq, ◌⊎◌, inl, inr, eq-eqb}
+use Rattle.std.proofs.Common.{◌≡◌, ℕ, ◌+◌, ◌%◌, ◌^◌, ◌<◌, ◌≤◌, Bool, true, false, not, cond, ◌&&◌, ◌==◌, nat_le, List, [], ◌∷◌, ◌++◌, Option, Some, None, refl, ap, ◌∙◌, rules, arith, codes}
+use Rattle.std.proofs.Common.{bytes_eq, ◌⊎◌, inl, inr, eq-eqb}
 use Rattle.std.specs.Fmt.{decimal}
 use Rattle.std.specs.List.{list_all}
 use Rattle.std.specs.Str.{all_ascii_digits}
@@ -19,7 +20,8 @@ use Rattle.rpc_model.specs.declared.journal.How.TheVariants as how
 use Rattle.rpc_model.specs.declared.line.Line.{Line}
 use Rattle.rpc_model.specs.declared.line.Line.TheVariants as line
 use Rattle.rpc_model.specs.Texts.{hex_word, attempt_word, event_words, origin_words, fate_words, how_word, first_word, other_words, line_text}
-use Rattle.journal_text.specs.Reading.{◌>>=◌, digits_after, is_digit, number, number32, number64, bytes_said, both_numbers, attempt_said, how_said, fate_said, entry_said, line_said, words_said, spelled_so, line_of, ok_of}
+use Rattle.journal_text.specs.Reading.{◌>>=◌, digits_after, is_digit, number, number32, number64, bytes_said, both_numbers, attempt_said, how_said, fate_said, entry_said, line_said}
+use Rattle.journal_text.specs.Reading.{words_said, spelled_so, line_of, ok_of}
 use Rattle.journal_text.specs.Writing.{is_line, is_from, is_frame_fate, is_error_fate}
 use Rattle.journal_text.specs.Typed.{Is32, Is64, IsTypedEvent, IsTypedOrigin, IsTypedFate, IsTypedLine}
 use Rattle.journal_text.proofs.Plain.{lacks, all_lack, split_front, split_none, lacks-append, all_lack-append, split_words, words_lack, decimal_lacks, hex_lacks}
@@ -35,7 +37,8 @@ one_digit : (n : ℕ) → n < 10 → list_all is_digit ((48 + n) ∷ []) ≡ tru
 one_digit n h = grind arith
 
 decimal_digits : (n : ℕ) → n < 2 ^ 64 → list_all is_digit (decimal n) ≡ true
-decimal_digits n h = decimal_by_steps (λ k ds. list_all is_digit ds ≡ true) (λ k lt. one_digit k lt) (λ k ds le so_far. digits_push ds ((48 + k % 10) ∷ []) so_far (one_digit (k % 10) (omega arith))) n h
+decimal_digits n h =
+    decimal_by_steps (λ k ds. list_all is_digit ds ≡ true) (λ k lt. one_digit k lt) (λ k ds le so_far. digits_push ds ((48 + k % 10) ∷ []) so_far (one_digit (k % 10) (omega arith))) n h
 
 -- a number is read as itself
 number_is : (most n : ℕ) → n ≤ most → most < 2 ^ 64 → number most (decimal n) ≡ Some n
@@ -65,7 +68,8 @@ bytes_is (b ∷ bs) h =
 -- an attempt is read as itself
 pub attempt_is : (node attempt : ℕ) → Is32 node → Is32 attempt → attempt_said (attempt_word node attempt) ≡ Some (node, attempt)
 attempt_is node attempt h k =
-    ap (λ (ws : List (List ℕ)). both_numbers ws) (split_front 35 (decimal node) (decimal attempt) (decimal_lacks 35 node (omega arith) (omega (arith, h))) ∙ ap (λ (ws : List (List ℕ)). decimal node ∷ ws) (split_none 35 (decimal attempt) (decimal_lacks 35 attempt (omega arith) (omega (arith, k)))))
+    ap (λ (ws : List (List ℕ)). both_numbers ws) (split_front 35 (decimal node) (decimal attempt) (decimal_lacks 35 node (omega arith) (omega (arith, h)))
+    ∙ ap (λ (ws : List (List ℕ)). decimal node ∷ ws) (split_none 35 (decimal attempt) (decimal_lacks 35 attempt (omega arith) (omega (arith, k)))))
     ∙ rw (is32 node h, is32 attempt k) refl
 
 pub how_is : (h : How) → how_said (how_word h) ≡ Some h
@@ -81,7 +85,8 @@ fate_is fate.Stray t k = refl
 fate_is (fate.Dropped call) t k = rw (is32 call t) refl
 fate_is (fate.Queued pass number) t k = elim k [ inl e ↦ absurd cc | inr e ↦ absurd cc ]
 
-entry_is : (m : ℕ) (ev : Event) (o : Origin) → Is64 m → IsTypedEvent ev → IsTypedOrigin o → is_from ev o ≡ true → entry_said (decimal m ∷ (event_words ev ++ origin_words o)) ≡ Some (line.Entry (record { event = ev; moment = m; from = o }))
+entry_is : (m : ℕ) (ev : Event) (o : Origin) → Is64 m → IsTypedEvent ev → IsTypedOrigin o → is_from ev o ≡ true
+    → entry_said (decimal m ∷ (event_words ev ++ origin_words o)) ≡ Some (line.Entry (record { event = ev; moment = m; from = o }))
 entry_is m (Reply node k code text) (origin.Frame wire place) h t s e = rw (is64 m h, attempt_is node k t.0 t.1, is32 code t.2, bytes_is text t.3, is32 wire s.0, is64 place s.1) refl
 entry_is m (Reply node k code text) o h t s e = absurd cc
 entry_is m (Lost node k code) (origin.Loss wire place) h t s e = rw (is64 m h, attempt_is node k t.0 t.1, is32 code t.2, is32 wire s.0, is64 place s.1) refl
@@ -197,8 +202,10 @@ same_bytes (x ∷ xs) = and_from _ _ (eq-eqb x x refl) (same_bytes xs)
 pub line_reads : (l : Line) → IsTypedLine l → is_line l ≡ true → line_of (line_text l) ≡ Some l
 unfolding line_of
 line_reads l t k =
-    ap (λ (ws : List (List ℕ)). words_said ws >>= spelled_so (line_text l)) (split_words (first_word l) (other_words l) (first_lacks 32 (omega arith) (omega arith) l) (others_lack 32 (omega arith) (omega arith) l t))
-    ∙ (ap (λ (o : Option Line). o >>= spelled_so (line_text l)) (said_is l t k) ∙ ap (λ (b : Bool). cond b (Some l) None) (and_from (is_line l) (bytes_eq (line_text l) (line_text l)) k (same_bytes (line_text l))))
+    ap (λ (ws : List (List ℕ)). words_said ws >>= spelled_so (line_text l))
+    (split_words (first_word l) (other_words l) (first_lacks 32 (omega arith) (omega arith) l) (others_lack 32 (omega arith) (omega arith) l t))
+    ∙ (ap (λ (o : Option Line). o >>= spelled_so (line_text l)) (said_is l t k)
+    ∙ ap (λ (b : Bool). cond b (Some l) None) (and_from (is_line l) (bytes_eq (line_text l) (line_text l)) k (same_bytes (line_text l))))
 
 -- and has no newline
 pub line_lacks : (l : Line) → IsTypedLine l → lacks 10 (line_text l) ≡ true

@@ -1,5 +1,6 @@
 -- What the entries say of the ids that wait: looking one up, adding one, taking one out, and forgetting those that don't wait.
-use Rattle.std.proofs.Common.{◌≡◌, ℕ, zero, suc, ◌+◌, ◌≤◌, Bool, true, false, cond, nat_eq, List, [], ◌∷◌, ◌++◌, length, filter, slice_get, drop, Option, None, Some, is_some, arith, refl, sym, ap, subst, ◌∙◌}
+use Rattle.std.proofs.Common.{◌≡◌, ℕ, zero, suc, ◌+◌, ◌≤◌, Bool, true, false, cond, nat_eq, List, [], ◌∷◌, ◌++◌, length, filter, slice_get, drop, Option, None, Some, is_some, arith, refl}
+use Rattle.std.proofs.Common.{sym, ap, subst, ◌∙◌}
 use Rattle.std.specs.List.{AllByRecursion, IsDistinct}
 use Rattle.std.specs.Cmp.{nat_eq_equiv}
 use Rattle.std.specs.Option.{option_map}
@@ -17,7 +18,8 @@ pub unfound : {X : Type 0} (answer : Option X) → is_some answer ≡ false → 
 unfound None h = refl
 unfound (Some x) h = absurd (cc)
 
-found_if : (b : Bool) (id k call : ℕ) (o : Option ℕ) (others : List (ℕ × ℕ)) (r : Option (Option ℕ)) → nat_eq id k ≡ b → cond b (Some o) r ≡ Some (Some call) → (r ≡ Some (Some call) → call_of id others ≡ Some call) → call_of id (with_entry k o others) ≡ Some call
+found_if : (b : Bool) (id k call : ℕ) (o : Option ℕ) (others : List (ℕ × ℕ)) (r : Option (Option ℕ)) → nat_eq id k ≡ b → cond b (Some o) r ≡ Some (Some call)
+    → (r ≡ Some (Some call) → call_of id others ≡ Some call) → call_of id (with_entry k o others) ≡ Some call
 found_if true id k call None others r e h i = absurd (cc)
 found_if true id k call (Some c) others r e h i = let s : c ≡ call = cc in ap (λ b. cond b (Some c) (call_of id others)) e ∙ ap Some s
 found_if false id k call None others r e h i = i h
@@ -37,7 +39,8 @@ all_apart : (id : ℕ) (es : List (ℕ × Option ℕ)) → AllByRecursion (λ k.
 all_apart id [] h = refl
 all_apart id (e ∷ es) h = apart id e.0 e.1 (waiting es) h.0 (all_apart id es h.1)
 
-unknown_if : (b : Bool) (id k : ℕ) (o : Option ℕ) (others : List (ℕ × ℕ)) (r : Option (Option ℕ)) → nat_eq id k ≡ b → cond b (Some o) r ≡ None → (r ≡ None → call_of id others ≡ None) → call_of id (with_entry k o others) ≡ None
+unknown_if : (b : Bool) (id k : ℕ) (o : Option ℕ) (others : List (ℕ × ℕ)) (r : Option (Option ℕ)) → nat_eq id k ≡ b → cond b (Some o) r ≡ None → (r ≡ None → call_of id others ≡ None)
+    → call_of id (with_entry k o others) ≡ None
 unknown_if true id k o others r e h i = absurd (cc)
 unknown_if false id k o others r e h i = apart id k o others e (i h)
 
@@ -45,7 +48,8 @@ pub unknown : (id : ℕ) (es : List (ℕ × Option ℕ)) → lookup (nat_eq id) 
 unknown id [] h = refl
 unknown id (e ∷ es) h = unknown_if (nat_eq id e.0) id e.0 e.1 (waiting es) (lookup (nat_eq id) es) refl h (unknown id es)
 
-gone_if : (b : Bool) (id k : ℕ) (o : Option ℕ) (es : List (ℕ × Option ℕ)) → nat_eq id k ≡ b → AllByRecursion (λ y. nat_eq k y ≡ false) (keys_of es) → cond b (Some o) (lookup (nat_eq id) es) ≡ Some None
+gone_if : (b : Bool) (id k : ℕ) (o : Option ℕ) (es : List (ℕ × Option ℕ)) → nat_eq id k ≡ b → AllByRecursion (λ y. nat_eq k y ≡ false) (keys_of es)
+    → cond b (Some o) (lookup (nat_eq id) es) ≡ Some None
     → (lookup (nat_eq id) es ≡ Some None → call_of id (waiting es) ≡ None) → call_of id (with_entry k o (waiting es)) ≡ None
 gone_if true id k None es e d h i = all_apart id es (subst (λ y. AllByRecursion (λ z. nat_eq y z ≡ false) (keys_of es)) (sym (eqb-true id k e)) d)
 gone_if true id k (Some c) es e d h i = absurd (cc)
@@ -132,7 +136,8 @@ gone_put id zero es h = tt
 gone_put id (suc n) [] h = absurd (h)
 gone_put id (suc n) (e ∷ es) h = gone_put_if (nat_eq id e.0) n e.0 e.1 es (insert_entry nat_eq es id None) h.0 h.1 (gone_put id n es h.1)
 
-shorter_if : (b : Bool) (call : ℕ) (e : ℕ × ℕ) (xs rest : List (ℕ × ℕ)) (r : Option ℕ) → cond b (Some e.1) r ≡ Some call → (r ≡ Some call → length rest + 1 ≡ length xs) → length (cond b xs (e ∷ rest)) + 1 ≡ suc (length xs)
+shorter_if : (b : Bool) (call : ℕ) (e : ℕ × ℕ) (xs rest : List (ℕ × ℕ)) (r : Option ℕ) → cond b (Some e.1) r ≡ Some call → (r ≡ Some call → length rest + 1 ≡ length xs)
+    → length (cond b xs (e ∷ rest)) + 1 ≡ suc (length xs)
 shorter_if true call e xs rest r h i = omega arith
 shorter_if false call e xs rest r h i = let j : length rest + 1 ≡ length xs = i h in omega (arith, j)
 
@@ -197,7 +202,8 @@ pub same : (es : List (ℕ × Option ℕ)) → waiting (filter waits es) ≡ wai
 same [] = refl
 same (e ∷ es) = same_if e.0 e.1 (filter waits es) ∙ ap (with_entry e.0 e.1) (same es)
 
-absent_if : (b : Bool) (id k : ℕ) (o : Option ℕ) (es : List (ℕ × Option ℕ)) (others : List (ℕ × ℕ)) → nat_eq id k ≡ b → call_of id (with_entry k o others) ≡ None → (call_of id others ≡ None → lookup (nat_eq id) es ≡ None)
+absent_if : (b : Bool) (id k : ℕ) (o : Option ℕ) (es : List (ℕ × Option ℕ)) (others : List (ℕ × ℕ)) → nat_eq id k ≡ b → call_of id (with_entry k o others) ≡ None
+    → (call_of id others ≡ None → lookup (nat_eq id) es ≡ None)
     → lookup (nat_eq id) (cond (is_some o) ((k, o) ∷ es) es) ≡ None
 absent_if b id k None es others e h i = i h
 absent_if true id k (Some c) es others e h i = let f : Some c ≡ None = ap (λ b. cond b (Some c) (call_of id others)) (sym e) ∙ h in absurd (cc)
@@ -223,7 +229,8 @@ pub kept_count : (id : ℕ) (es : List (ℕ × Option ℕ)) (x : Option ℕ) →
 kept_count id [] x h = absurd (cc)
 kept_count id (e ∷ es) x h = kept_if (nat_eq id e.0) e.0 e.1 es (insert_entry nat_eq es id None) x h (kept_count id es x)
   where
-    kept_if : (b : Bool) (k : ℕ) (o : Option ℕ) (es put : List (ℕ × Option ℕ)) (x : Option ℕ) → cond b (Some o) (lookup (nat_eq id) es) ≡ Some x → (lookup (nat_eq id) es ≡ Some x → length put ≡ length es) → length (cond b ((k, None) ∷ es) ((k, o) ∷ put)) ≡ suc (length es)
+    kept_if : (b : Bool) (k : ℕ) (o : Option ℕ) (es put : List (ℕ × Option ℕ)) (x : Option ℕ) → cond b (Some o) (lookup (nat_eq id) es) ≡ Some x
+        → (lookup (nat_eq id) es ≡ Some x → length put ≡ length es) → length (cond b ((k, None) ∷ es) ((k, o) ∷ put)) ≡ suc (length es)
     kept_if true k o es put x h i = refl
     kept_if false k o es put x h i = ap suc (i h)
 

@@ -49,7 +49,8 @@ idle_sum f (x ∷ xs) z h =
     let r = idle_sum f xs (omega (arith, z, c)) h.1 in
     omega (arith, a, r, sum_by-cons f x xs)
 
-only_sum : (f : Log → ℕ) (logs : List Log) (i : ℕ) (v : Log) → get_elem? logs i ≡ some v → sum_by passes_of logs ≡ v.passes → AllByRecursion (λ (v : Log). v.passes ≡ 0 → f v ≡ 0) logs → sum_by f logs ≡ f v
+only_sum : (f : Log → ℕ) (logs : List Log) (i : ℕ) (v : Log) → get_elem? logs i ≡ some v → sum_by passes_of logs ≡ v.passes → AllByRecursion (λ (v : Log). v.passes ≡ 0 → f v ≡ 0) logs
+    → sum_by f logs ≡ f v
 only_sum f [] i v e z h = absurd (some-ne-none v (sym e))
 only_sum f (x ∷ xs) zero v e z h =
     let same = some-injective x v e in
@@ -65,7 +66,8 @@ only_sum f (x ∷ xs) (suc i) v e z h =
     let r = only_sum f xs i v e (omega (arith, z, c, l)) h.1 in
     omega (arith, a, r, sum_by-cons f x xs)
 
-idle_weight : (all : ℕ) (weight : Mark → ℕ) (logs : List Log) → AllByRecursion (IsKnown all) logs → AllByRecursion (λ (v : Log). v.passes ≡ 0 → registered_weight weight v ≡ 0) logs × AllByRecursion (λ (v : Log). v.passes ≡ 0 → taken_weight weight v ≡ 0) logs
+idle_weight : (all : ℕ) (weight : Mark → ℕ) (logs : List Log) → AllByRecursion (IsKnown all) logs
+    → AllByRecursion (λ (v : Log). v.passes ≡ 0 → registered_weight weight v ≡ 0) logs × AllByRecursion (λ (v : Log). v.passes ≡ 0 → taken_weight weight v ≡ 0) logs
 idle_weight all weight [] h = (tt, tt)
 idle_weight all weight (x ∷ xs) h =
     let r = idle_weight all weight xs h.1 in
@@ -173,7 +175,8 @@ grows number v count any is items logs h e =
     idle_all all [] z h = tt
     idle_all all (x ∷ xs) z h = let c = sum_by-cons passes_of x xs in (known_idle all (all + 1) x (omega (arith, z, c)) h.0, idle_all all xs (omega (arith, z, c)) h.1)
 
-    grown_set : (all : ℕ) (logs : List Log) (i : ℕ) (v w : Log) → get_elem? logs i ≡ some v → sum_by passes_of logs ≡ v.passes → AllByRecursion (IsKnown all) logs → IsKnown (all + 1) w → AllByRecursion (IsKnown (all + 1)) (set logs i w)
+    grown_set : (all : ℕ) (logs : List Log) (i : ℕ) (v w : Log) → get_elem? logs i ≡ some v → sum_by passes_of logs ≡ v.passes → AllByRecursion (IsKnown all) logs → IsKnown (all + 1) w
+        → AllByRecursion (IsKnown (all + 1)) (set logs i w)
     grown_set all [] i v w e z h k = tt
     grown_set all (x ∷ xs) zero v w e z h k =
         let p : x.passes ≡ v.passes = ap (λ (y : Log). y.passes) (some-injective x v e) in
@@ -206,7 +209,8 @@ shares number v any items logs h e =
     )
 
 -- two passes are one
-pub joins : (number : ℕ) (v : Log) (other : ℕ) (u : Log) → 0 < v.passes → 0 < u.passes → Merges IsBalanced number v other u (log (v.registered ++ u.registered) (v.taken ++ u.taken) (v.passes + u.passes) v.all) (log [] [] 0 0)
+pub joins : (number : ℕ) (v : Log) (other : ℕ) (u : Log) → 0 < v.passes → 0 < u.passes
+    → Merges IsBalanced number v other u (log (v.registered ++ u.registered) (v.taken ++ u.taken) (v.passes + u.passes) v.all) (log [] [] 0 0)
 joins number v other u any more items logs h e apart f =
     let w : Log = log (v.registered ++ u.registered) (v.taken ++ u.taken) (v.passes + u.passes) v.all in
     let spent : Log = log [] [] 0 0 in
@@ -229,7 +233,8 @@ joins number v other u any more items logs h e apart f =
     )
 
 -- the same, at what a call answers
-pub none_taken : (result : Option Mark) (old new : Log) (all : ℕ) (P : Mark → Type 0) → 0 < old.passes → old.all ≡ all → MatchOption result ((new ≡ old) × SawQueue old []) P → IfNone result (new.passes ≡ all → AreSameMarks new.registered new.taken)
+pub none_taken : (result : Option Mark) (old new : Log) (all : ℕ) (P : Mark → Type 0) → 0 < old.passes → old.all ≡ all → MatchOption result ((new ≡ old) × SawQueue old []) P
+    → IfNone result (new.passes ≡ all → AreSameMarks new.registered new.taken)
 none_taken None old new all P held known h = λ whole.
     subst (λ (v : Log). AreSameMarks v.registered v.taken) (sym h.0) (all_taken old h.1 held (sym (ap (λ (v : Log). v.passes) h.0) ∙ whole ∙ sym known))
 none_taken (Some mark) old new all P held known h = tt

@@ -50,7 +50,8 @@ replaced-failed retry attempt leaf k code h =
 replaced-step : (retry attempt : ℕ) (leaf : Leaf) (e : Event) → Replaced attempt leaf → Replaced attempt (leaf_step retry leaf e)
 replaced-step retry attempt leaf (Reply node k code text) h =
     elim (is_live leaf k) as (λ b. Replaced attempt (cond b (answered retry leaf k code text) leaf)) [
-      | true ↦ elim (code == 0) as (λ b. Replaced attempt (cond b (ended leaf (Good text)) (failed retry leaf k code))) [ true ↦ replaced-ended attempt leaf (Good text) h | false ↦ replaced-failed retry attempt leaf k code h ]
+      | true ↦ elim (code == 0) as (λ b. Replaced attempt (cond b (ended leaf (Good text)) (failed retry leaf k code)))
+          [ true ↦ replaced-ended attempt leaf (Good text) h | false ↦ replaced-failed retry attempt leaf k code h ]
       | false ↦ h
     ]
 replaced-step retry attempt leaf (Lost node k code) h =
@@ -90,11 +91,13 @@ NeedsReply leaf e text = (node : ℕ) × (attempt : ℕ) × (e ≡ Reply node at
 
 pub success-needs : (retry : ℕ) (leaf : Leaf) (e : Event) (text : List ℕ) → leaf.end ≡ None → (leaf_step retry leaf e).end ≡ Some (Good text) → NeedsReply leaf e text
 success-needs retry leaf (Reply node k code t) text none =
-    elim (is_live leaf k) as (λ b. is_live leaf k ≡ b → (cond b (answered retry leaf k code t) leaf).end ≡ Some (Good text) → (n : ℕ) × (a : ℕ) × (Reply node k code t ≡ Reply n a 0 text) × (is_live leaf a ≡ true)) [
-      | true ↦ λ live. elim (code == 0) as (λ b. (code == 0) ≡ b → (cond b (ended leaf (Good t)) (failed retry leaf k code)).end ≡ Some (Good text) → (n : ℕ) × (a : ℕ) × (Reply node k code t ≡ Reply n a 0 text) × (is_live leaf a ≡ true)) [
-        | true ↦ λ zero good. let code_is : code ≡ 0 = grind arith in let text_is : t ≡ text = cc in (node, k, (let same : Reply node k code t ≡ Reply node k 0 text = cc in same), live)
-        | false ↦ λ other good. absurd (failed-not_good retry leaf k code text none good)
-      ] refl
+    elim (is_live leaf k) as (λ b. is_live leaf k ≡ b → (cond b (answered retry leaf k code t) leaf).end ≡ Some (Good text)
+    → (n : ℕ) × (a : ℕ) × (Reply node k code t ≡ Reply n a 0 text) × (is_live leaf a ≡ true)) [
+      | true ↦ λ live. elim (code == 0) as (λ b. (code == 0) ≡ b → (cond b (ended leaf (Good t)) (failed retry leaf k code)).end ≡ Some (Good text)
+          → (n : ℕ) × (a : ℕ) × (Reply node k code t ≡ Reply n a 0 text) × (is_live leaf a ≡ true)) [
+            | true ↦ λ zero good. let code_is : code ≡ 0 = grind arith in let text_is : t ≡ text = cc in (node, k, (let same : Reply node k code t ≡ Reply node k 0 text = cc in same), live)
+            | false ↦ λ other good. absurd (failed-not_good retry leaf k code text none good)
+          ] refl
       | false ↦ λ dead good. absurd (let no : ⊥ = cc in no)
     ] refl
 success-needs retry leaf (Lost node k code) text none =

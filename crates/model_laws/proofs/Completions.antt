@@ -1,5 +1,6 @@
 -- A parallel node's end is that of its completions, in the order in which they came.
-use Rattle.std.proofs.Common.{◌≡◌, ℕ, zero, suc, ◌+◌, ◌<◌, ◌⊎◌, inl, inr, Bool, true, false, cond, ◌==◌, ◌||◌, nat_lt, nat_le, List, [], ◌∷◌, ◌++◌, length, Option, Some, None, arith, refl, ap, sym, ◌∙◌, subst, length-append}
+use Rattle.std.proofs.Common.{◌≡◌, ℕ, zero, suc, ◌+◌, ◌<◌, ◌⊎◌, inl, inr, Bool, true, false, cond, ◌==◌, ◌||◌, nat_lt, nat_le, List, [], ◌∷◌, ◌++◌, length, Option, Some, None, arith, refl}
+use Rattle.std.proofs.Common.{ap, sym, ◌∙◌, subst, length-append}
 use Rattle.std.proofs.lemmas.List.{append_assoc}
 use Rattle.rpc_model.specs.declared.codes.TheConstants.{ETOOMANYFAILS}
 use Rattle.rpc_model.specs.declared.event.End.{End}
@@ -14,7 +15,8 @@ use Rattle.rpc_model.specs.declared.part.Part.{Part}
 use Rattle.rpc_model.specs.Kinds.{Kinds}
 use Rattle.rpc_model.specs.Plan.{Rule, Plan, par_plan, Plans, last_plan, plan_then}
 use Rattle.rpc_model.specs.Versions.{nodes}
-use Rattle.rpc_model.specs.Parallel.{Limits, and_part, bads, count_bad, count_good, end_at, ends_from, fold_parts, goods, parts_from, judged, limits, mapped, or_else, par_deadline, par_end, parts_of, refused}
+use Rattle.rpc_model.specs.Parallel.{Limits, and_part, bads, count_bad, count_good, end_at, ends_from, fold_parts, goods, parts_from, judged, limits, mapped, or_else, par_deadline, par_end}
+use Rattle.rpc_model.specs.Parallel.{parts_of, refused}
 use Rattle.rpc_model.specs.State.{State, waits, leaf_state, par_state, sel_state, States, last_state, state_then, Run, Below, Par, end_of, ends_of, waiting_states, run_beside, beside, quiet, size}
 use Rattle.rpc_model.specs.Machine.{par_run, par_started, sub_started, where_ended, start_at, start_subs, node_of, is_deadline, new_end, par_at, par_stepped, while_open, step_at, step_subs}
 
@@ -198,7 +200,8 @@ module _ {M G : Type 0} (kinds : Kinds M G) where
       at false h none = stepped-judged lim merges done par states (step_subs kinds (node + 1) states call e m) none j (step-new 0 (node + 1) states call e m done)
 
       open_or : (o : Option End) → par.end ≡ o
-          → Goes lim merges done states (while_open o (par_state par states) (cond (node_of e == node) (par_at kinds par states e) (par_stepped kinds par (step_subs kinds (node + 1) states call e m))))
+          → Goes lim merges done states (while_open o (par_state par states)
+          (cond (node_of e == node) (par_at kinds par states e) (par_stepped kinds par (step_subs kinds (node + 1) states call e m))))
       open_or None h = at (node_of e == node) refl h
       open_or (Some end) h = goes-quiet lim merges done par states j
 

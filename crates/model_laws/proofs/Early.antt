@@ -13,7 +13,8 @@ use Rattle.rpc_model.specs.declared.told.Told.TheVariants.{Ended}
 use Rattle.rpc_model.specs.Effects.{Mark}
 use Rattle.rpc_model.specs.Marks.{marks_left, Begun, apply, least_mark, take_mark, weave, finish_at_most, finish_least, finish}
 use Rattle.rpc_model.specs.declared.script.Script.{Script}
-use Rattle.rpc_model.specs.Told.{Standing, begun, full, told_of, Replay, number_of, is_call, is_begun, is_full, change_first, stand_new, call_after, event_after, call_event, stand_joined, joined, joined_moment, join_end, join_tells, call_join, call_tells, after, tells, told_from}
+use Rattle.rpc_model.specs.Told.{Standing, begun, full, told_of, Replay, number_of, is_call, is_begun, is_full, change_first, stand_new, call_after, event_after, call_event, stand_joined}
+use Rattle.rpc_model.specs.Told.{joined, joined_moment, join_end, join_tells, call_join, call_tells, after, tells, told_from}
 use Rattle.model_laws.specs.Early.{settle, settled}
 use Rattle.rpc_model.specs.declared.kinds.MapKind.{MapKind}
 use Rattle.rpc_model.specs.declared.kinds.MergeKind.{MergeKind}

@@ -1,5 +1,6 @@
 -- A node with a good end has a leaf with one below it.
-use Rattle.std.proofs.Common.{◌≡◌, ℕ, zero, suc, ◌+◌, ◌-◌, ◌<◌, ◌≤◌, ◌⊎◌, inl, inr, Bool, true, false, cond, ◌==◌, ◌||◌, ◌&&◌, not, nat_lt, nat_le, fold, count_by, List, [], ◌∷◌, ◌++◌, Option, Some, None, is_none, arith, refl, ap, sym, ◌∙◌}
+use Rattle.std.proofs.Common.{◌≡◌, ℕ, zero, suc, ◌+◌, ◌-◌, ◌<◌, ◌≤◌, ◌⊎◌, inl, inr, Bool, true, false, cond, ◌==◌, ◌||◌, ◌&&◌, not, nat_lt, nat_le, fold, count_by, List, [], ◌∷◌, ◌++◌}
+use Rattle.std.proofs.Common.{Option, Some, None, is_none, arith, refl, ap, sym, ◌∙◌}
 use Rattle.std.specs.List.{list_any}
 use Rattle.std.proofs.lemmas.List.Sums.{sum_by-cons}
 use Rattle.rpc_model.specs.declared.codes.TheConstants.{ECANCELED, EREQUEST, ETOOMANYFAILS, ERPCTIMEDOUT}
@@ -18,7 +19,8 @@ use Rattle.rpc_model.specs.Versions.{nodes}
 use Rattle.rpc_model.specs.Parallel.{Limits, bads, count_good, fold_parts, goods, is_asked, is_bad, judged, limit, limits, mapped, par_deadline, parts_of, refused}
 use Rattle.rpc_model.specs.Selective.{next_try}
 use Rattle.rpc_model.specs.State.{State, waits, leaf_state, par_state, sel_state, States, last_state, state_then, Par, Sel, Run, Below, end_of, ends_of, waiting_states, quiet, and_then, size}
-use Rattle.rpc_model.specs.Machine.{par_run, par_started, sub_started, where_ended, start_at, start_subs, start_tries, start, node_of, is_deadline, new_end, leaf_run, par_at, par_stepped, sel_at, sel_stepped, step_tries, while_open, try_ended, try_run, is_left, start_waiting, step_at, step_subs, step, cancelled, machine}
+use Rattle.rpc_model.specs.Machine.{par_run, par_started, sub_started, where_ended, start_at, start_subs, start_tries, start, node_of, is_deadline, new_end, leaf_run, par_at, par_stepped}
+use Rattle.rpc_model.specs.Machine.{sel_at, sel_stepped, step_tries, while_open, try_ended, try_run, is_left, start_waiting, step_at, step_subs, step, cancelled, machine}
 
 module _ {M G : Type 0} (kinds : Kinds M G) where
   -- ---- limits

@@ -5,7 +5,8 @@ use Rattle.rpc_model.specs.declared.chan.Chan.{Chan}
 use Rattle.rpc_model.specs.declared.chan.Chan.TheVariants as chan
 use Rattle.rpc_model.specs.declared.chan.PartChan.{PartChan}
 use Rattle.rpc_model.specs.declared.chan.Sub.{Sub}
-use Rattle.rpc_model.specs.Plan.{Rule, Plan, leaf_plan, par_plan, sel_plan, Plans, last_plan, plan_then, and_plan, plans_of, par_over, sel_over, rule_of, subs_of, tries, part_plans, copies, chan_plan, plan_within, plan}
+use Rattle.rpc_model.specs.Plan.{Rule, Plan, leaf_plan, par_plan, sel_plan, Plans, last_plan, plan_then, and_plan, plans_of, par_over, sel_over, rule_of, subs_of, tries, part_plans, copies}
+use Rattle.rpc_model.specs.Plan.{chan_plan, plan_within, plan}
 use Rattle.rpc_model.specs.Versions.{nodes, nodes_of}
 use Rattle.rpc_model.specs.State.{State, waits, leaf_state, par_state, sel_state, size, waiting_states}
 use Rattle.model_laws.specs.Paths.{plans_below, child, in_child, node_at}
@@ -119,7 +120,8 @@ module _ {M G : Type 0} where
 
   even-at : (path : List ℕ) (plan : Plan M G) → IsEven plan → EvenState (node_at path (waits plan))
   even-at [] plan h = h
-  even-at (k ∷ path) plan h = even-in path (child k (waiting_states (plans_below plan))) (even-child (plans_below plan) k (even-below plan h)) (child-waits (plans_below plan) k) (λ p hp. even-at path p hp)
+  even-at (k ∷ path) plan h =
+      even-in path (child k (waiting_states (plans_below plan))) (even-child (plans_below plan) k (even-below plan h)) (child-waits (plans_below plan) k) (λ p hp. even-at path p hp)
 
   -- A parallel node of a plan, at the end of whatever path, has as many mergers as subs.
   pub node-even : (path : List ℕ) (p : Plan M G) (rule : Rule M G) (plans : Plans M G) → IsEven p → node_at path (waits p) ≡ Some (waits (par_plan rule plans)) → count_of plans ≡ length rule.merges

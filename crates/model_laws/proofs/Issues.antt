@@ -32,7 +32,8 @@ leaf_step-issues retry leaf (Backup node) =
     elim (is_none leaf.end) as (λ b. IssuesFew retry leaf (cond (b && (not leaf.backed_up && may_issue retry leaf)) (backed leaf) leaf)) [
       | true ↦ elim leaf.backed_up as (λ b. IssuesFew retry leaf (cond (not b && may_issue retry leaf) (backed leaf) leaf)) [
         | true ↦ inl refl
-        | false ↦ elim (nat_le leaf.issued retry) as (λ b. nat_le leaf.issued retry ≡ b → IssuesFew retry leaf (cond b (backed leaf) leaf)) [ true ↦ λ left. inr (refl, grind arith) | false ↦ λ none. inl refl ] refl
+        | false ↦ elim (nat_le leaf.issued retry) as (λ b. nat_le leaf.issued retry ≡ b → IssuesFew retry leaf (cond b (backed leaf) leaf))
+            [ true ↦ λ left. inr (refl, grind arith) | false ↦ λ none. inl refl ] refl
       ]
       | false ↦ inl refl
     ]

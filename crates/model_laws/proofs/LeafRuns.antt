@@ -16,7 +16,8 @@ use Rattle.rpc_model.specs.State.{State, leaf_state, Run, quiet, and_then}
 use Rattle.rpc_model.specs.Machine.{leaf_run, step, start, machine}
 use Rattle.model_laws.proofs.Issues.{IssuesFew, leaf_step-issues, few-issues, few-bound}
 
-sent-more : (leaf : LeafChan) (call : ℕ) (request : List ℕ) (before now : ℕ) → (now ≡ before) ⊎ (now ≡ before + 1) → first_sends leaf call request before ++ sent leaf call 0 request before now ≡ first_sends leaf call request now
+sent-more : (leaf : LeafChan) (call : ℕ) (request : List ℕ) (before now : ℕ) → (now ≡ before) ⊎ (now ≡ before + 1)
+    → first_sends leaf call request before ++ sent leaf call 0 request before now ≡ first_sends leaf call request now
 sent-more leaf call request before now (inl same) =
     let none : nat_lt before now ≡ false = grind (arith, nat_tests) in
     let one : Send = record { node = 0; attempt = before; server = server_of leaf call before; payload = request } in

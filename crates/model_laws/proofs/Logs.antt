@@ -14,7 +14,8 @@ use Rattle.rpc_model.specs.declared.told.Told.TheVariants.{Ended, Unended}
 use Rattle.model_laws.specs.Heard.{is_end_of}
 use Rattle.rpc_model.specs.Marks.{Begun, begin, apply, marks_left, weave, finish}
 use Rattle.rpc_model.specs.declared.script.Script.{Script}
-use Rattle.rpc_model.specs.Told.{Standing, begun, told_of, Replay, unbegun, number_of, is_call, is_full, change_first, stand_new, call_after, event_after, call_event, stand_joined, joined, join_end, join_tells, after, tells, told_from, told}
+use Rattle.rpc_model.specs.Told.{Standing, begun, told_of, Replay, unbegun, number_of, is_call, is_full, change_first, stand_new, call_after, event_after, call_event, stand_joined, joined}
+use Rattle.rpc_model.specs.Told.{join_end, join_tells, after, tells, told_from, told}
 use Rattle.model_laws.specs.Logs.{own_event, own_events, is_mark, EndsBy}
 use Rattle.model_laws.proofs.Took.{Took, took-none, took-then, finish-took, event-took, machine-took}
 use Rattle.model_laws.proofs.Once.{finish-call, event-number, joined-number, find-other, find-same, Silent, equal_or_not, silent-from, call_tells-none, found-number, join-tells, JoinTells}

@@ -1,5 +1,6 @@
 -- A line of an accepted script raises the bound on the moments of a replay by 2^41, so all stay below 2^60.
-use Rattle.std.proofs.Common.{◌≡◌, ℕ, zero, suc, ◌+◌, ◌*◌, ◌^◌, ◌<◌, ◌≤◌, max, Bool, true, false, cond, nat_le, List, [], ◌∷◌, ◌++◌, length, All, find, Option, Some, None, is_some, arith, refl, ap, subst, slice_get, length-append}
+use Rattle.std.proofs.Common.{◌≡◌, ℕ, zero, suc, ◌+◌, ◌*◌, ◌^◌, ◌<◌, ◌≤◌, max, Bool, true, false, cond, nat_le, List, [], ◌∷◌, ◌++◌, length, All, find, Option, Some, None, is_some, arith}
+use Rattle.std.proofs.Common.{refl, ap, subst, slice_get, length-append}
 use Rattle.std.specs.List.{AllByRecursion}
 use Rattle.std.proofs.lemmas.List.Elements.{All-nil, All-cons, All-head, All-tail}
 use Rattle.rpc_model.specs.declared.event.End.{End}
@@ -20,9 +21,11 @@ use Rattle.rpc_model.specs.Versions.{nodes, width}
 use Rattle.rpc_model.specs.Parallel.{mapped, refused, limits}
 use Rattle.rpc_model.specs.State.{State, waits, leaf_state, par_state, sel_state, end_of}
 use Rattle.rpc_model.specs.Machine.{start_at, start_subs, start, step, cancelled}
-use Rattle.rpc_model.specs.Marks.{Begun, begin, apply, unstarted, marks_left, set_mark, set_all, is_before, least_mark, take_mark, mark_event, weave_at_most, weave_least, weave, finish_at_most, finish_least}
+use Rattle.rpc_model.specs.Marks.{Begun, begin, apply, unstarted, marks_left, set_mark, set_all, is_before, least_mark, take_mark, mark_event, weave_at_most, weave_least, weave}
+use Rattle.rpc_model.specs.Marks.{finish_at_most, finish_least}
 use Rattle.rpc_model.specs.declared.script.Script.{Script}
-use Rattle.rpc_model.specs.Told.{Standing, begun, full, told_of, Replay, unbegun, change_first, stand_new, call_after, is_full, event_after, stand_joined, joined, joined_moment, is_call, call_event, call_join, after}
+use Rattle.rpc_model.specs.Told.{Standing, begun, full, told_of, Replay, unbegun, change_first, stand_new, call_after, is_full, event_after, stand_joined, joined, joined_moment, is_call}
+use Rattle.rpc_model.specs.Told.{call_event, call_join, after}
 use Rattle.model_laws.specs.Logs.{after_all}
 use Rattle.model_laws.specs.Soon.{IsSoon, IsShort, AreShort, WaitsShortly, RunIsSoon}
 use Rattle.rpc_model.specs.Fits.{IsChan, AreChans, IsNarrow, BeginsNarrow}

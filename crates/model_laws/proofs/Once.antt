@@ -1,5 +1,6 @@
 -- A call whose end was told is told no more.
-use Rattle.std.proofs.Common.{◌≡◌, ℕ, zero, suc, ◌≤◌, ◌⊎◌, inl, inr, Bool, true, false, cond, ◌==◌, nat_le, List, [], ◌∷◌, ◌++◌, max, find, count_by, Option, Some, None, is_some, arith, refl, ap, sym, ◌∙◌, subst}
+use Rattle.std.proofs.Common.{◌≡◌, ℕ, zero, suc, ◌≤◌, ◌⊎◌, inl, inr, Bool, true, false, cond, ◌==◌, nat_le, List, [], ◌∷◌, ◌++◌, max, find, count_by, Option, Some, None, is_some, arith}
+use Rattle.std.proofs.Common.{refl, ap, sym, ◌∙◌, subst}
 use Rattle.std.specs.Option.{option_map}
 use Rattle.std.proofs.lemmas.List.Sums.{sum_by-append}
 use Rattle.rpc_model.specs.declared.event.End.{End}
@@ -10,7 +11,8 @@ use Rattle.rpc_model.specs.declared.script.Act.TheVariants.{Call, Cancel, Reply,
 use Rattle.rpc_model.specs.Effects.{Mark}
 use Rattle.rpc_model.specs.Marks.{Begun, least_mark, take_mark, weave_at_most, weave_least, marks_left, finish_at_most, finish_least, finish}
 use Rattle.rpc_model.specs.declared.script.Script.{Script}
-use Rattle.rpc_model.specs.Told.{Standing, begun, full, told_of, Replay, unbegun, number_of, is_call, change_first, is_full, call_after, event_after, call_event, stand_joined, joined, call_join, join_end, join_tells, call_tells, new_tells, after, tells, told_from, told}
+use Rattle.rpc_model.specs.Told.{Standing, begun, full, told_of, Replay, unbegun, number_of, is_call, change_first, is_full, call_after, event_after, call_event, stand_joined, joined}
+use Rattle.rpc_model.specs.Told.{call_join, join_end, join_tells, call_tells, new_tells, after, tells, told_from, told}
 use Rattle.model_laws.specs.Heard.{is_end_of}
 use Rattle.rpc_model.specs.declared.kinds.MapKind.{MapKind}
 use Rattle.rpc_model.specs.declared.kinds.MergeKind.{MergeKind}

@@ -254,7 +254,8 @@ module _ {M G : Type 0} (kinds : Kinds M G) (path : List ℕ) (rule : Rule M G) 
       ap (λ (r : Run M G). r.state) (fold-append (λ (r : Run M G) t. and_then r (step kinds call r.state t.0 t.1)) first past (timed ∷ [])) in
       subst (λ ds. NodeStandsBy kinds path n rule Comes plans ds (node_at path (machine kinds plan call request begun (past ++ timed ∷ [])).state))
       (sym (completed-more past timed first (newly_at path (waits plan) first.state [])))
-      (subst (λ s. NodeStandsBy kinds path n rule Comes plans (newly_at path there (step kinds call there timed.0 timed.1).state (completions kinds path plan call request begun past)) (node_at path s))
+      (subst (λ s. NodeStandsBy kinds path n rule Comes plans (newly_at path there (step kinds call there timed.0 timed.1).state (completions kinds path plan call request begun past))
+      (node_at path s))
       (sym run) goes)
 
   all-more : (past events : List (Event × ℕ)) → count_of plans ≡ length rule.merges → StandsAfter past → StandsAfter (past ++ events)

@@ -16,7 +16,8 @@ use Rattle.rpc_model.specs.Versions.{nodes}
 use Rattle.rpc_model.specs.Parallel.{mapped, refused, Limits, limits, judged}
 use Rattle.rpc_model.specs.Selective.{next_try}
 use Rattle.rpc_model.specs.State.{State, waits, leaf_state, par_state, sel_state, States, last_state, state_then, Run, Below, end_of, waiting_states, quiet, and_then, size}
-use Rattle.rpc_model.specs.Machine.{par_started, sub_started, where_ended, start_at, start_subs, start_tries, node_of, new_end, leaf_run, par_at, par_stepped, sel_at, sel_stepped, step_tries, while_open, try_ended, try_run, is_left, start_waiting, step_at, step_subs, step, cancelled}
+use Rattle.rpc_model.specs.Machine.{par_started, sub_started, where_ended, start_at, start_subs, start_tries, node_of, new_end, leaf_run, par_at, par_stepped, sel_at, sel_stepped}
+use Rattle.rpc_model.specs.Machine.{step_tries, while_open, try_ended, try_run, is_left, start_waiting, step_at, step_subs, step, cancelled}
 
 module _ {M G : Type 0} (kinds : Kinds M G) where
   -- there is one only where P

@@ -1,5 +1,6 @@
 -- The laws of every run, from the lemmas on each.
-use Rattle.std.proofs.Common.{◌≡◌, ℕ, zero, suc, ◌+◌, ◌<◌, ◌≤◌, ◌⊎◌, inl, inr, Bool, true, false, cond, ◌==◌, ◌&&◌, nat_lt, List, [], ◌∷◌, ◌++◌, length, count_by, Option, Some, None, arith, refl, ap, sym, ◌∙◌}
+use Rattle.std.proofs.Common.{◌≡◌, ℕ, zero, suc, ◌+◌, ◌<◌, ◌≤◌, ◌⊎◌, inl, inr, Bool, true, false, cond, ◌==◌, ◌&&◌, nat_lt, List, [], ◌∷◌, ◌++◌, length, count_by, Option, Some, None, arith}
+use Rattle.std.proofs.Common.{refl, ap, sym, ◌∙◌}
 use Rattle.std.proofs.lemmas.Bool.Decides.{nat_tests}
 use Rattle.std.proofs.lemmas.List.Recursion.{is_count_by}
 use Rattle.rpc_model.specs.declared.chan.LeafChan.{LeafChan}
@@ -12,7 +13,8 @@ use Rattle.rpc_model.specs.State.{State, waits, leaf_state, par_state, sel_state
 use Rattle.rpc_model.specs.Machine.{machine}
 use Rattle.model_laws.specs.Completions.{count_of}
 use Rattle.model_laws.specs.Sends.{leaf_sends, sends_of, all_sends, is_of}
-use Rattle.model_laws.specs.Laws.{EndsStay, NodesStay, LeavesIssueFew, NodesAreOfThePlan, TriesAreFew, SendsAreOfTheState, SendsAreAttempts, NothingIsSentTwice, OffsetsAndMeaningsAreInverse, WeavesJoin}
+use Rattle.model_laws.specs.Laws.{EndsStay, NodesStay, LeavesIssueFew, NodesAreOfThePlan, TriesAreFew, SendsAreOfTheState, SendsAreAttempts, NothingIsSentTwice, OffsetsAndMeaningsAreInverse}
+use Rattle.model_laws.specs.Laws.{WeavesJoin}
 use Rattle.model_laws.proofs.Weaves.{weave-twice}
 use Rattle.model_laws.proofs.Leaves.{IsKept, machine-each}
 use Rattle.model_laws.proofs.Paths.{node-stays}

@@ -10,7 +10,8 @@ use Rattle.rpc_model.specs.Versions.{nodes, nodes_of}
 use Rattle.rpc_model.specs.Parallel.{mapped, refused, Limits, limits, judged}
 use Rattle.rpc_model.specs.Selective.{next_try}
 use Rattle.rpc_model.specs.State.{State, waits, leaf_state, par_state, sel_state, States, last_state, state_then, Run, Below, end_of, size, size_of, waiting_states}
-use Rattle.rpc_model.specs.Machine.{par_started, sub_started, where_ended, try_ended, try_run, is_left, start_at, start_subs, start_tries, start_waiting, while_open, node_of, new_end, par_at, par_stepped, sel_at, sel_stepped, step_at, step_subs, step_tries}
+use Rattle.rpc_model.specs.Machine.{par_started, sub_started, where_ended, try_ended, try_run, is_left, start_at, start_subs, start_tries, start_waiting, while_open, node_of, new_end}
+use Rattle.rpc_model.specs.Machine.{par_at, par_stepped, sel_at, sel_stepped, step_at, step_subs, step_tries}
 
 module _ {M G : Type 0} (kinds : Kinds M G) where
   size-wait : (plans : Plans M G) → size_of (waiting_states plans) ≡ nodes_of plans

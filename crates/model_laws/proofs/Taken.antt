@@ -37,7 +37,9 @@ take-set : (run : Run MapKind MergeKind) (b : Begun) (timed : Event × ℕ) → 
 take-set run b timed h =
     let next = step script_kinds b.call run.state timed.0 timed.1 in
     let others = behind (is_mark timed.0) b.waiting in
-    let were = all-weaker (Contains run.marks) (Contains (run.marks ++ next.marks)) others (λ m c. Contains-append_left run.marks next.marks m c) (behind-all (Contains run.marks) (is_mark timed.0) b.waiting h.1) in
+    let were =
+    all-weaker (Contains run.marks) (Contains (run.marks ++ next.marks)) others (λ m c. Contains-append_left run.marks next.marks m c)
+    (behind-all (Contains run.marks) (is_mark timed.0) b.waiting h.1) in
     let all = sets-all (Contains (run.marks ++ next.marks)) next.marks others (among run.marks next.marks) were in (
       ap (λ s. (step script_kinds b.call s timed.0 timed.1).state) h.0,
       subst (λ s. AllByRecursion (Contains (run.marks ++ next.marks)) (set_all (step script_kinds b.call s timed.0 timed.1).marks others)) h.0 all,

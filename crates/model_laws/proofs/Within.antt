@@ -13,7 +13,8 @@ use Rattle.rpc_model.specs.Versions.{nodes, nodes_of}
 use Rattle.rpc_model.specs.Parallel.{mapped, refused, Limits, limits, judged}
 use Rattle.rpc_model.specs.Selective.{next_try}
 use Rattle.rpc_model.specs.State.{State, waits, leaf_state, par_state, sel_state, States, last_state, state_then, Run, Below, end_of, waiting_states, size, size_of}
-use Rattle.rpc_model.specs.Machine.{par_started, sub_started, where_ended, start_at, start_subs, start_tries, node_of, new_end, par_at, par_stepped, sel_at, sel_stepped, while_open, try_ended, try_run, is_left, start_waiting, step_at, step_subs, step_tries, step}
+use Rattle.rpc_model.specs.Machine.{par_started, sub_started, where_ended, start_at, start_subs, start_tries, node_of, new_end, par_at, par_stepped, sel_at, sel_stepped, while_open}
+use Rattle.rpc_model.specs.Machine.{try_ended, try_run, is_left, start_waiting, step_at, step_subs, step_tries, step}
 
 abbrev pub AreWithin : ℕ → List Mark → Type 0
 AreWithin bound marks = AllByRecursion (λ (mark : Mark). mark.node < bound) marks
@@ -46,11 +47,13 @@ module _ {M G : Type 0} (kinds : Kinds M G) where
   mutual
     pub start-within : (n node : ℕ) (plan : Plan M G) (call : ℕ) (request : List ℕ) (m : ℕ) → node + nodes plan ≤ n → AreWithin n (start_at kinds node plan call request m).marks
     start-within n node (leaf_plan leaf) call request m h =
-        append-within n (mark_after leaf.timeout node m deadline) (mark_after leaf.backup node m backup) (mark-within n leaf.timeout node m deadline (omega arith)) (mark-within n leaf.backup node m backup (omega arith))
+        append-within n (mark_after leaf.timeout node m deadline) (mark_after leaf.backup node m backup) (mark-within n leaf.timeout node m deadline (omega arith))
+        (mark-within n leaf.backup node m backup (omega arith))
     start-within n node (par_plan rule plans) call request m h =
         let asked = mapped kinds.map rule.maps request in
         append-within n (mark_after rule.timeout node m deadline) _ (mark-within n rule.timeout node m deadline (omega arith))
-        (par-within n plans (start_subs kinds (node + 1) plans call asked (limits rule asked) rule.merges m []) (refused asked) (subs-within n (node + 1) plans call asked (limits rule asked) rule.merges m [] (omega arith)))
+        (par-within n plans (start_subs kinds (node + 1) plans call asked (limits rule asked) rule.merges m []) (refused asked)
+        (subs-within n (node + 1) plans call asked (limits rule asked) rule.merges m [] (omega arith)))
     start-within n node (sel_plan timeout plans) call request m h =
         append-within n (mark_after timeout node m deadline) _ (mark-within n timeout node m deadline (omega arith)) (tries-within n (node + 1) plans call request m (omega arith))
 
@@ -111,7 +114,8 @@ module _ {M G : Type 0} (kinds : Kinds M G) where
     subs-step-within n node (state_then state states) call e m h =
         below-within n (nat_lt (node_of e) (node + size state)) _ _ (step_at-within n node state call e m (omega arith)) (subs-step-within n (node + size state) states call e m (omega arith))
 
-    tries-step-within : (n node : ℕ) (states : States M G) (call : ℕ) (e : Event) (m : ℕ) (request : List ℕ) → node + size_of states ≤ n → AreWithin n (step_tries kinds node states call e m request).marks
+    tries-step-within : (n node : ℕ) (states : States M G) (call : ℕ) (e : Event) (m : ℕ) (request : List ℕ) → node + size_of states ≤ n
+        → AreWithin n (step_tries kinds node states call e m request).marks
     tries-step-within n node last_state call e m request h = tt
     tries-step-within n node (state_then state states) call e m request h =
         let run = step_at kinds node state call e m in

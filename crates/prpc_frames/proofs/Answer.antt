@@ -34,6 +34,8 @@ told old new piece (Some (Attachment n)) e h final = (e, h)
 told old new piece (Some Memory) e h final = absurd final
 
 -- a piece that was taken is answered by the fault that it leaves
-pub takes_piece : (old new : Stream) (piece : List ℕ) (fault : Option FeedFault) (result : Result (Unit {0}) FeedFault) → result ≡ answer_of fault → new.fault ≡ fault → IfSome fault IsFinal → old.fault ≡ None
+pub takes_piece : (old new : Stream) (piece : List ℕ) (fault : Option FeedFault) (result : Result (Unit {0}) FeedFault) → result ≡ answer_of fault → new.fault ≡ fault → IfSome fault IsFinal
+    → old.fault ≡ None
     → new ≡ joined old.frames (frames old.at (old.rest ++ piece)) → Takes old piece result new
-takes_piece old new piece fault result answered h final none e = subst (λ (r : Result (Unit {0}) FeedFault). Takes old piece r new) (sym answered) (told old new piece fault (new_said old new piece none e) h final)
+takes_piece old new piece fault result answered h final none e =
+    subst (λ (r : Result (Unit {0}) FeedFault). Takes old piece r new) (sym answered) (told old new piece fault (new_said old new piece none e) h final)

@@ -61,7 +61,8 @@ header_long at a b h =
 header_short : (at : ℕ) (a b : List ℕ) (r : Result (Unit {0}) FeedFault) → begins at magic a ≡ r → Stays (r >>= λ _. Ok None) (header at (a ++ b))
 unfolding header
 header_short at a b (Ok x) e = tt
-header_short at a b (Err f) e = ap (λ (r : Result (Unit {0}) FeedFault). r >>= λ _. cond (ltb (length (a ++ b)) 12) (Ok None) (sizes at (number_at 4 (a ++ b)) (number_at 8 (a ++ b)))) (begins_bad at magic a b f e)
+header_short at a b (Err f) e =
+    ap (λ (r : Result (Unit {0}) FeedFault). r >>= λ _. cond (ltb (length (a ++ b)) 12) (Ok None) (sizes at (number_at 4 (a ++ b)) (number_at 8 (a ++ b)))) (begins_bad at magic a b f e)
 
 header_by : (at : ℕ) (a b : List ℕ) (t : Bool) → ltb (length a) 12 ≡ t → Stays (begins at magic a >>= λ _. cond t (Ok None) (sizes at (number_at 4 a) (number_at 8 a))) (header at (a ++ b))
 unfolding header
@@ -85,7 +86,8 @@ whole_stays : (at : ℕ) (s : Sizes) (c b : List ℕ) → Stays (whole at (Some 
 unfolding whole
 whole_stays at s c b = whole_by at s c b (ltb (length c) s.body) refl
 
-frame_by : (at : ℕ) (a b : List ℕ) (h g : Result (Option Sizes) FeedFault) → IfThere (λ s. 12 ≤ length a) h → Stays h g → Stays (h >>= λ s. whole at s (drop 12 a)) (g >>= λ s. whole at s (drop 12 (a ++ b)))
+frame_by : (at : ℕ) (a b : List ℕ) (h g : Result (Option Sizes) FeedFault) → IfThere (λ s. 12 ≤ length a) h → Stays h g
+    → Stays (h >>= λ s. whole at s (drop 12 a)) (g >>= λ s. whole at s (drop 12 (a ++ b)))
 unfolding whole
 frame_by at a b (Ok None) g long e = tt
 frame_by at a b (Ok (Some s)) g long e =

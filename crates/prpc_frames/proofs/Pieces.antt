@@ -25,7 +25,8 @@ cut_at : (n at : ℕ) (a b : List ℕ) → length a ≤ suc n → (r : Result (O
 unfolding fed
 cut_at n at a b h (Ok None) e there stays others = refl
 cut_at n at a b h (Ok (Some w)) e there stays others =
-    let next : fed (frames (later at w.size) (drop w.size a)) b ≡ frames (later at w.size) (drop w.size a ++ b) = others (later at w.size) (drop w.size a) (omega (arith, length-drop w.size a, there.0, there.1)) in
+    let next : fed (frames (later at w.size) (drop w.size a)) b ≡ frames (later at w.size) (drop w.size a ++ b) =
+    others (later at w.size) (drop w.size a) (omega (arith, length-drop w.size a, there.0, there.1)) in
     let along : drop w.size a ++ b ≡ drop w.size (a ++ b) = sym (drop-append-le w.size a b there.1) in
     fed_before w.frame (frames (later at w.size) (drop w.size a)) b
     ∙ (ap (λ (s : Stream). before w.frame s) (next ∙ ap (λ (xs : List ℕ). frames (later at w.size) xs) along) ∙ sym (frames_by at (a ++ b) (Ok (Some w)) (sym stays)))

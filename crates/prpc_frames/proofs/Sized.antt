@@ -18,7 +18,8 @@ bind_there : {X Y : Type 0} (P : Y → Type 0) (r : Result X FeedFault) (f : X �
 bind_there P (Ok x) f h = h x
 bind_there P (Err e) f h = tt
 
-option_there : {X Y : Type 0} (Q : X → Type 0) (P : Y → Type 0) (r : Result (Option X) FeedFault) (f : Option X → Result (Option Y) FeedFault) → IfThere Q r → IfThere P (f None) → ((x : X) → Q x → IfThere P (f (Some x))) → IfThere P (r >>= f)
+option_there : {X Y : Type 0} (Q : X → Type 0) (P : Y → Type 0) (r : Result (Option X) FeedFault) (f : Option X → Result (Option Y) FeedFault) → IfThere Q r → IfThere P (f None)
+    → ((x : X) → Q x → IfThere P (f (Some x))) → IfThere P (r >>= f)
 option_there Q P (Ok None) f q n s = n
 option_there Q P (Ok (Some x)) f q n s = s x q
 option_there Q P (Err e) f q n s = tt
@@ -57,4 +58,5 @@ unfolding frame whole
 frame_there at bytes =
     let P : Whole → Type 0 = λ w. (12 ≤ w.size) × (w.size ≤ length bytes) in
     option_there (λ s. 12 ≤ length bytes) P (header at bytes) (λ s. whole at s (drop 12 bytes)) (header_there at bytes) tt
-    (λ s long. there_along (λ w. (12 ≤ w.size) × (w.size ≤ 12 + length (drop 12 bytes))) P (whole at (Some s) (drop 12 bytes)) (λ w h. (h.0, omega (arith, length-drop 12 bytes, h.1, long))) (whole_there at s (drop 12 bytes)))
+    (λ s long. there_along (λ w. (12 ≤ w.size) × (w.size ≤ 12 + length (drop 12 bytes))) P (whole at (Some s) (drop 12 bytes)) (λ w h. (h.0, omega (arith, length-drop 12 bytes, h.1, long)))
+    (whole_there at s (drop 12 bytes)))

@@ -68,7 +68,8 @@ told : (o : Option ℤ) (n : ℕ) → IsTold o n → attached o ≡ n
 told None n h = sym h
 told (Some z) n h = ap (λ (y : ℤ). attached (Some y)) h
 
-content_said : (at : ℕ) (m : meta_type.Meta) (p a : List ℕ) → is_compressed m.compress ≡ false → attached m.attachment ≡ length a → content at m (p ++ a) ≡ Ok (record { meta = m; payload = p; attachment = a })
+content_said : (at : ℕ) (m : meta_type.Meta) (p a : List ℕ) → is_compressed m.compress ≡ false → attached m.attachment ≡ length a
+    → content at m (p ++ a) ≡ Ok (record { meta = m; payload = p; attachment = a })
 unfolding content
 content_said at m p a e1 e2 =
     let size : length (p ++ a) - length a ≡ length p = omega (arith, length-append p a) in
@@ -101,10 +102,16 @@ whole_said at f more again fits =
     let long : ltb (length (body_bytes f ++ more)) (length (body_bytes f)) ≡ false = le-ltb _ _ (omega (arith, length-append (body_bytes f) more)) in
     rw (long, take-append_seam (body_bytes f) more, body_said at f again fits) refl
 
-frame_said : (at : ℕ) (f : Frame) (more : List ℕ) → meta (meta_bytes f.meta) ≡ Ok f.meta → IsFitting f → frame at (frame_bytes f ++ more) ≡ Ok (Some (record { frame = f; size = 12 + length (body_bytes f) }))
+frame_said : (at : ℕ) (f : Frame) (more : List ℕ) → meta (meta_bytes f.meta) ≡ Ok f.meta → IsFitting f
+    → frame at (frame_bytes f ++ more) ≡ Ok (Some (record { frame = f; size = 12 + length (body_bytes f) }))
 unfolding frame
 frame_said at f more again fits =
-    rw (laid_out f more, header_said at (length (body_bytes f)) (length (meta_bytes f.meta)) (body_bytes f ++ more) fits.size (meta_within f), behind_header (length (body_bytes f)) (length (meta_bytes f.meta)) (body_bytes f ++ more))
+    rw (
+      laid_out f more,
+      header_said at (length (body_bytes f)) (length (meta_bytes f.meta)) (body_bytes f ++ more) fits.size (meta_within f),
+      behind_header (length (body_bytes f))
+          (length (meta_bytes f.meta)) (body_bytes f ++ more),
+    )
     (whole_said at f more again fits)
 
 frame_size : (f : Frame) → length (frame_bytes f) ≡ 12 + length (body_bytes f)
@@ -114,7 +121,8 @@ frame_size f =
     omega (arith, length-append (magic ++ xs ++ ys) (body_bytes f), length-append (magic ++ xs) ys, length-append magic xs, four (length (body_bytes f)), four (length (meta_bytes f.meta)))
 
 -- the stream of a spelling and what follows
-pub spelled_first : (at : ℕ) (f : Frame) (more : List ℕ) → meta (meta_bytes f.meta) ≡ Ok f.meta → IsFitting f → frames at (frame_bytes f ++ more) ≡ before f (frames (later at (length (frame_bytes f))) more)
+pub spelled_first : (at : ℕ) (f : Frame) (more : List ℕ) → meta (meta_bytes f.meta) ≡ Ok f.meta → IsFitting f
+    → frames at (frame_bytes f ++ more) ≡ before f (frames (later at (length (frame_bytes f))) more)
 spelled_first at f more again fits =
     let first : frames at (frame_bytes f ++ more) ≡ before f (frames (later at (12 + length (body_bytes f))) (drop (12 + length (body_bytes f)) (frame_bytes f ++ more))) =
     frames_by at (frame_bytes f ++ more) (Ok (Some (record { frame = f; size = 12 + length (body_bytes f) }))) (sym (frame_said at f more again fits)) in
@@ -137,8 +145,10 @@ spelled_all again at [] more h each = ap (λ (n : ℕ). frames n more) (later_no
 spelled_all again at (f ∷ fs) more h each =
     let here : IsFitting f × IsTyped f.meta = each 0 f (omega arith) in
     let next : ℕ = later at (length (frame_bytes f)) in
-    let one : frames at (frame_bytes f ++ (all_bytes fs ++ more)) ≡ before f (frames next (all_bytes fs ++ more)) = spelled_first at f (all_bytes fs ++ more) (again f.meta here.0.writable (small_sized f.meta here.1 (omega (arith, meta_within f, here.0.size)))) here.0 in
-    let two : frames next (all_bytes fs ++ more) ≡ joined fs (frames (later next (length (all_bytes fs))) more) = spelled_all again next fs more (omega arith) (λ k d lt. each (suc k) d (omega arith)) in
+    let one : frames at (frame_bytes f ++ (all_bytes fs ++ more)) ≡ before f (frames next (all_bytes fs ++ more)) =
+    spelled_first at f (all_bytes fs ++ more) (again f.meta here.0.writable (small_sized f.meta here.1 (omega (arith, meta_within f, here.0.size)))) here.0 in
+    let two : frames next (all_bytes fs ++ more) ≡ joined fs (frames (later next (length (all_bytes fs))) more) =
+    spelled_all again next fs more (omega arith) (λ k d lt. each (suc k) d (omega arith)) in
     let place : later next (length (all_bytes fs)) ≡ later at (length (frame_bytes f ++ all_bytes fs)) =
     later_twice at (length (frame_bytes f)) (length (all_bytes fs)) ∙ ap (λ (n : ℕ). later at n) (sym (length-append (frame_bytes f) (all_bytes fs))) in
     ap (λ (xs : List ℕ). frames at xs) (append_assoc (frame_bytes f) (all_bytes fs) more)

@@ -9,7 +9,8 @@ use Rattle.prpc_frames.specs.Seen.{stream_seen, IsFront}
 use Rattle.prpc_frames.proofs.Steps.{frames_by}
 
 -- a frame more
-pub one_more : (fs gs : List Frame) (at used : ℕ) (w : Whole) (bytes : List ℕ) (all : Stream) → gs ≡ fs ++ w.frame ∷ [] → Ok (Some w) ≡ frame at (drop used bytes) → joined fs (frames at (drop used bytes)) ≡ all
+pub one_more : (fs gs : List Frame) (at used : ℕ) (w : Whole) (bytes : List ℕ) (all : Stream) → gs ≡ fs ++ w.frame ∷ [] → Ok (Some w) ≡ frame at (drop used bytes)
+    → joined fs (frames at (drop used bytes)) ≡ all
     → joined gs (frames (later at w.size) (drop (used + w.size) bytes)) ≡ all
 one_more fs gs at used w bytes all g e h =
     let behind : Stream = frames (later at w.size) (drop (used + w.size) bytes) in
@@ -25,7 +26,8 @@ front_more before now more h =
     take-append-le (length before) now more (omega (arith, size)) ∙ h
 
 -- no frame more
-pub no_more : (fs : List Frame) (at used : ℕ) (bytes : List ℕ) (all : Stream) → Ok None ≡ frame at (drop used bytes) → joined fs (frames at (drop used bytes)) ≡ all → stream_seen fs (record { used = used; at = at; fault = None }) bytes ≡ all
+pub no_more : (fs : List Frame) (at used : ℕ) (bytes : List ℕ) (all : Stream) → Ok None ≡ frame at (drop used bytes) → joined fs (frames at (drop used bytes)) ≡ all
+    → stream_seen fs (record { used = used; at = at; fault = None }) bytes ≡ all
 no_more fs at used bytes all e h =
     let last : frames at (drop used bytes) ≡ record { frames = []; rest = drop used bytes; at = at; fault = None } = frames_by at (drop used bytes) (Ok None) e in
     let same : joined fs (frames at (drop used bytes)) ≡ stream_seen fs (record { used = used; at = at; fault = None }) bytes =
@@ -33,7 +35,8 @@ no_more fs at used bytes all e h =
     sym same ∙ h
 
 -- a fault
-pub bad_next : (fs : List Frame) (at used : ℕ) (bytes : List ℕ) (f : FeedFault) (all : Stream) → Err f ≡ frame at (drop used bytes) → joined fs (frames at (drop used bytes)) ≡ all → stream_seen fs (record { used = length bytes; at = at; fault = Some f }) bytes ≡ all
+pub bad_next : (fs : List Frame) (at used : ℕ) (bytes : List ℕ) (f : FeedFault) (all : Stream) → Err f ≡ frame at (drop used bytes) → joined fs (frames at (drop used bytes)) ≡ all
+    → stream_seen fs (record { used = length bytes; at = at; fault = Some f }) bytes ≡ all
 bad_next fs at used bytes f all e h =
     let last : frames at (drop used bytes) ≡ record { frames = []; rest = []; at = at; fault = Some f } = frames_by at (drop used bytes) (Err f) e in
     let same : joined fs (frames at (drop used bytes)) ≡ record { frames = fs; rest = []; at = at; fault = Some f } =

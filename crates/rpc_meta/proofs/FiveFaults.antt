@@ -8,8 +8,10 @@ use Rattle.rpc_meta.specs.declared.fault.MetaFault.TheVariants.{Cut, WireType, B
 use Rattle.rpc_meta.specs.declared.meta.Meta.{Meta}
 use Rattle.rpc_meta.specs.declared.meta.RequestMeta.{RequestMeta}
 use Rattle.rpc_meta.specs.declared.meta.ResponseMeta.{ResponseMeta}
-use Rattle.rpc_meta.specs.Meta.Wire.{◌>>=◌, groups, wrapped, piece, Value, number, text, fixed, number_at, text_at, fixed_at, value_at, Field, place, is_bad_number, field, Fields, first_of, fields_within, fields, said}
-use Rattle.rpc_meta.specs.Meta.Reading.{int32, name, no_request, request_says, request_field, no_response, response_says, response_field, request_at, response_at, meta_text, meta_number, meta_says, meta_field, no_meta, meta}
+use Rattle.rpc_meta.specs.Meta.Wire.{◌>>=◌, groups, wrapped, piece, Value, number, text, fixed, number_at, text_at, fixed_at, value_at, Field, place, is_bad_number, field, Fields, first_of}
+use Rattle.rpc_meta.specs.Meta.Wire.{fields_within, fields, said}
+use Rattle.rpc_meta.specs.Meta.Reading.{int32, name, no_request, request_says, request_field, no_response, response_says, response_field, request_at, response_at, meta_text, meta_number}
+use Rattle.rpc_meta.specs.Meta.Reading.{meta_says, meta_field, no_meta, meta}
 
 -- one of the grammar's faults
 abbrev IsFault : MetaFault → Type 0
@@ -68,13 +70,15 @@ fields_within_tells end zero bytes = tt
 fields_within_tells end (suc most) [] = tt
 fields_within_tells end (suc most) (b ∷ bytes) = first_tells (field end (b ∷ bytes)) (λ rest. fields_within end most rest) (field_tells end (b ∷ bytes)) (λ rest. fields_within_tells end most rest)
 
-said_tells : {M : Type 0} (says : M → Field → Result M MetaFault) (m : M) (list : List Field) (fault : Option MetaFault) → ((m : M) (f : Field) → Tells (says m f)) → IfSome fault IsFault → Tells (said says m list fault)
+said_tells : {M : Type 0} (says : M → Field → Result M MetaFault) (m : M) (list : List Field) (fault : Option MetaFault) → ((m : M) (f : Field) → Tells (says m f)) → IfSome fault IsFault
+    → Tells (said says m list fault)
 unfolding said
 said_tells says m [] None each h = tt
 said_tells says m [] (Some e) each h = h
 said_tells says m (f ∷ fs) fault each h = bind_tells (says m f) _ (each m f) (λ next. said_tells says next fs fault each h)
 
-message_tells : {M : Type 0} (says : M → Field → Result M MetaFault) (m : M) (end : ℕ) (bytes : List ℕ) → ((m : M) (f : Field) → Tells (says m f)) → Tells (said says m (fields end bytes).list (fields end bytes).fault)
+message_tells : {M : Type 0} (says : M → Field → Result M MetaFault) (m : M) (end : ℕ) (bytes : List ℕ) → ((m : M) (f : Field) → Tells (says m f))
+    → Tells (said says m (fields end bytes).list (fields end bytes).fault)
 unfolding fields
 message_tells says m end bytes each = said_tells says m (fields end bytes).list (fields end bytes).fault each (fields_within_tells end (length bytes) bytes)
 
@@ -84,7 +88,8 @@ name_tells at bytes = cond_tells (is_utf8 bytes) (Ok bytes) (Err (BadText at)) t
 
 request_tells : (m : RequestMeta) (at n : ℕ) (v : Value) → Tells (request_says m at n v)
 unfolding request_says
-request_tells m at n (text bytes) = cond_tells (eqb n 1) _ _ (bind_tells (name at bytes) _ (name_tells at bytes) (λ t. tt)) (cond_tells (eqb n 2) _ _ (bind_tells (name at bytes) _ (name_tells at bytes) (λ t. tt)) tt)
+request_tells m at n (text bytes) =
+    cond_tells (eqb n 1) _ _ (bind_tells (name at bytes) _ (name_tells at bytes) (λ t. tt)) (cond_tells (eqb n 2) _ _ (bind_tells (name at bytes) _ (name_tells at bytes) (λ t. tt)) tt)
 request_tells m at n (number v) = cond_tells (eqb n 3) _ _ tt tt
 request_tells m at n fixed = tt
 
@@ -97,8 +102,11 @@ response_tells m n fixed = tt
 meta_tells : (m : Meta) (at stop n : ℕ) (v : Value) → Tells (meta_says m at stop n v)
 unfolding meta_says meta_text meta_number request_at response_at
 meta_tells m at stop n (text bytes) =
-    cond_tells (eqb n 1) _ _ (bind_tells (request_at (unwrap_or m.request no_request) stop bytes) _ (message_tells request_field (unwrap_or m.request no_request) stop bytes (λ r f. request_tells r f.at f.number f.value)) (λ r. tt))
-    (cond_tells (eqb n 2) _ _ (bind_tells (response_at (unwrap_or m.response no_response) stop bytes) _ (message_tells response_field (unwrap_or m.response no_response) stop bytes (λ r f. response_tells r f.number f.value)) (λ r. tt)) tt)
+    cond_tells (eqb n 1) _ _ (bind_tells (request_at (unwrap_or m.request no_request) stop bytes) _
+    (message_tells request_field (unwrap_or m.request no_request) stop bytes (λ r f. request_tells r f.at f.number f.value)) (λ r. tt))
+    (cond_tells (eqb n 2) _ _
+    (bind_tells (response_at (unwrap_or m.response no_response) stop bytes) _
+    (message_tells response_field (unwrap_or m.response no_response) stop bytes (λ r f. response_tells r f.number f.value)) (λ r. tt)) tt)
 meta_tells m at stop n (number v) = cond_tells (eqb n 3) _ _ tt (cond_tells (eqb n 4) _ _ tt (cond_tells (eqb n 5) _ _ (cond_tells (is_negative (int32 v)) (Err (Range at)) _ tt tt) tt))
 meta_tells m at stop n fixed = tt
 

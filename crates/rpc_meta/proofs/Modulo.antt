@@ -37,7 +37,8 @@ wrapped_bind low (Ok x) = let e : (low + 128 * x.0) % 2 ^ 64 ≡ (x.0 % 2 ^ 64 *
 wrapped_bind low (Err e) = refl
 
 -- a group that isn't the last, and the groups after it
-wrapped_more : (at most : ℕ) (bytes : List ℕ) → 0 < most → 0 < length bytes → 128 ≤ get_or bytes 0 0 → wrapped at most bytes ≡ (wrapped at (most - 1) (drop 1 bytes) >>= join_reduced (get_or bytes 0 0 - 128))
+wrapped_more : (at most : ℕ) (bytes : List ℕ) → 0 < most → 0 < length bytes → 128 ≤ get_or bytes 0 0
+    → wrapped at most bytes ≡ (wrapped at (most - 1) (drop 1 bytes) >>= join_reduced (get_or bytes 0 0 - 128))
 unfolding wrapped groups
 wrapped_more at zero bytes h k le = absurd (omega arith)
 wrapped_more at (suc most) [] h k le = absurd (omega arith)

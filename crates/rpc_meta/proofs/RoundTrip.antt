@@ -14,7 +14,8 @@ use Rattle.rpc_meta.specs.declared.meta.Meta.{Meta}
 use Rattle.rpc_meta.specs.declared.meta.RequestMeta.{RequestMeta}
 use Rattle.rpc_meta.specs.declared.meta.ResponseMeta.{ResponseMeta}
 use Rattle.rpc_meta.specs.Meta.Wire.{piece, Value, number, text, number_at, text_at, value_at, Field, place, is_bad_number, field, fields, said}
-use Rattle.rpc_meta.specs.Meta.Reading.{int32, name, no_request, request_says, request_field, no_response, response_says, response_field, request_at, response_at, meta_text, meta_number, meta_says, meta_field, no_meta, meta}
+use Rattle.rpc_meta.specs.Meta.Reading.{int32, name, no_request, request_says, request_field, no_response, response_says, response_field, request_at, response_at, meta_text, meta_number}
+use Rattle.rpc_meta.specs.Meta.Reading.{meta_says, meta_field, no_meta, meta}
 use Rattle.rpc_meta.specs.Meta.Spelling.{groups_of, number_bytes, text_bytes, if_present, request_bytes, response_bytes, meta_bytes, IsWritable, IsSized}
 use Rattle.rpc_meta.proofs.Shortest.{varint_again, length-groups_of, groups_some}
 use Rattle.rpc_meta.proofs.Shorter.{fields_none, fields_some}
@@ -43,7 +44,8 @@ number_again end k n rest some few lt =
     let zero-more : k * 8 ≡ k * 8 + 0 = omega arith in
     let at = place end (groups_of 10 (k * 8 + 0) ++ after) in
     let value : value_at at 0 after ≡ Ok (number n, rest) = rw (varint_again at n rest lt) refl in
-    let whole : (groups_of 10 (k * 8) ++ groups_of 10 n) ++ rest ≡ groups_of 10 (k * 8 + 0) ++ after = ap (λ (x : ℕ). (groups_of 10 x ++ groups_of 10 n) ++ rest) zero-more ∙ append_assoc (groups_of 10 (k * 8 + 0)) (groups_of 10 n) rest in
+    let whole : (groups_of 10 (k * 8) ++ groups_of 10 n) ++ rest ≡ groups_of 10 (k * 8 + 0) ++ after =
+    ap (λ (x : ℕ). (groups_of 10 x ++ groups_of 10 n) ++ rest) zero-more ∙ append_assoc (groups_of 10 (k * 8 + 0)) (groups_of 10 n) rest in
     (at, ap (field end) whole ∙ field_of k 0 after rest end (number n) some few (omega arith) value)
 
 piece_again : (at : ℕ) (bytes rest : List ℕ) → piece at (length bytes) (bytes ++ rest) ≡ Ok (bytes, rest)
@@ -84,7 +86,8 @@ unfolding number_bytes
 message_number says m next end k z rest some few lt step =
     let again = number_again end k (cast_unsigned w64 z) rest some few lt in
     let n = cast_unsigned w64 z in
-    let long : 0 < length ((groups_of 10 (k * 8) ++ groups_of 10 n) ++ rest) = omega (arith, length-append (groups_of 10 (k * 8) ++ groups_of 10 n) rest, length-append (groups_of 10 (k * 8)) (groups_of 10 n), groups_some 9 n) in
+    let long : 0 < length ((groups_of 10 (k * 8) ++ groups_of 10 n) ++ rest) =
+    omega (arith, length-append (groups_of 10 (k * 8) ++ groups_of 10 n) rest, length-append (groups_of 10 (k * 8)) (groups_of 10 n), groups_some 9 n) in
     message_field says m next end ((groups_of 10 (k * 8) ++ groups_of 10 n) ++ rest) rest _ long again.1 (step again.0 (place end rest))
 
 message_text : {M : Type 0} (says : M → Field → Result M MetaFault) (m next : M) (end k : ℕ) (bytes rest : List ℕ) → 0 < k → k < 16 → length bytes < 2 ^ 64
@@ -95,7 +98,8 @@ message_text says m next end k bytes rest some few lt step =
     let again = text_again end k bytes rest some few lt in
     let key = groups_of 10 (k * 8 + 2) in
     let size = groups_of 10 (length bytes) in
-    let long : 0 < length (((key ++ size) ++ bytes) ++ rest) = omega (arith, length-append ((key ++ size) ++ bytes) rest, length-append (key ++ size) bytes, length-append key size, groups_some 9 (length bytes)) in
+    let long : 0 < length (((key ++ size) ++ bytes) ++ rest) =
+    omega (arith, length-append ((key ++ size) ++ bytes) rest, length-append (key ++ size) bytes, length-append key size, groups_some 9 (length bytes)) in
     message_field says m next end (((key ++ size) ++ bytes) ++ rest) rest _ long again.1 (step again.0 (place end rest))
 
 -- a field that may be absent
@@ -197,7 +201,17 @@ unfolding request_bytes
 request_len r is =
     let log = if_present (number_bytes 3) r.log_id in
     let log-len : length log ≤ 20 = present_len (FitsSigned w64) (number_bytes 3) 20 r.log_id is.log_id (λ z _. number_len 3 z) in
-    omega (arith, length-append (text_bytes 1 r.service ++ text_bytes 2 r.method) log, length-append (text_bytes 1 r.service) (text_bytes 2 r.method), text_len 1 r.service, text_len 2 r.method, log-len, is.service_len, is.method_len)
+    omega (
+      arith,
+      length-append (text_bytes 1 r.service ++ text_bytes 2 r.method) log,
+      length-append (text_bytes 1 r.service) (text_bytes 2 r.method),
+      text_len 1 r.service,
+      text_len 2
+          r.method,
+      log-len,
+      is.service_len,
+      is.method_len,
+    )
 
 response_len : (r : ResponseMeta) → IsSpelledResponse r → length (response_bytes r) < 2 ^ 64
 unfolding response_bytes
@@ -206,7 +220,8 @@ response_len r is =
     let words-len : length (if_present (text_bytes 2) r.text) ≤ 20 + 2 ^ 32 = present_len (λ t. length t < 2 ^ 32) (text_bytes 2) (20 + 2 ^ 32) r.text is.text (λ t few. omega (arith, text_len 2 t)) in
     omega (arith, length-append (if_present (number_bytes 1) r.code) (if_present (text_bytes 2) r.text), code-len, words-len)
 
-spelled_request : (o : Option RequestMeta) → IfSome o (λ r. IsUtf8 r.service × IsUtf8 r.method) → IfSome o (λ r. (length r.service < 2 ^ 32) × (length r.method < 2 ^ 32) × IfSome r.log_id (FitsSigned w64)) → IfSome o IsSpelledRequest
+spelled_request : (o : Option RequestMeta) → IfSome o (λ r. IsUtf8 r.service × IsUtf8 r.method)
+    → IfSome o (λ r. (length r.service < 2 ^ 32) × (length r.method < 2 ^ 32) × IfSome r.log_id (FitsSigned w64)) → IfSome o IsSpelledRequest
 spelled_request None names sizes = tt
 spelled_request (Some r) names sizes = record { service = names.0; method = names.1; service_len = sizes.0; method_len = sizes.1; log_id = sizes.2 }
 
@@ -230,21 +245,33 @@ meta_again_at m end writable sized =
     let four = if_present (number_bytes 4) m.correlation ++ five in
     let three = if_present (number_bytes 3) m.compress ++ four in
     let two = if_present (λ r. text_bytes 2 (response_bytes r)) m.response ++ three in
-    ap (message meta_field no_meta end) (in_five (if_present (λ r. text_bytes 1 (request_bytes r)) m.request) (if_present (λ r. text_bytes 2 (response_bytes r)) m.response) (if_present (number_bytes 3) m.compress) (if_present (number_bytes 4) m.correlation) (if_present (number_bytes 5) m.attachment))
-    ∙ message_present IsSpelledRequest (λ r. text_bytes 1 (request_bytes r)) meta_field (λ o. record { request = o; response = None; compress = None; correlation = None; attachment = None }) end two m.request (spelled_request m.request writable.names sized.request)
-    (λ r is. message_text meta_field no_meta (record { request = Some r; response = None; compress = None; correlation = None; attachment = None }) end 1 (request_bytes r) two (omega arith) (omega arith) (request_len r is)
+    ap (message meta_field no_meta end) (in_five (if_present (λ r. text_bytes 1 (request_bytes r)) m.request) (if_present (λ r. text_bytes 2 (response_bytes r)) m.response)
+    (if_present (number_bytes 3) m.compress) (if_present (number_bytes 4) m.correlation) (if_present (number_bytes 5) m.attachment))
+    ∙ message_present IsSpelledRequest (λ r. text_bytes 1 (request_bytes r)) meta_field (λ o. record { request = o; response = None; compress = None; correlation = None; attachment = None })
+    end two m.request (spelled_request m.request writable.names sized.request)
+    (λ r is. message_text meta_field no_meta (record { request = Some r; response = None; compress = None; correlation = None; attachment = None }) end 1 (request_bytes r) two (omega arith)
+    (omega arith) (request_len r is)
     (λ at stop. rw (request_again r stop is) refl))
-    ∙ message_present IsSpelledResponse (λ r. text_bytes 2 (response_bytes r)) meta_field (λ o. record { request = m.request; response = o; compress = None; correlation = None; attachment = None }) end three m.response (spelled_response m.response sized.response)
-    (λ r is. message_text meta_field (record { request = m.request; response = None; compress = None; correlation = None; attachment = None }) (record { request = m.request; response = Some r; compress = None; correlation = None; attachment = None }) end 2 (response_bytes r) three (omega arith) (omega arith) (response_len r is)
+    ∙ message_present IsSpelledResponse (λ r. text_bytes 2 (response_bytes r)) meta_field
+    (λ o. record { request = m.request; response = o; compress = None; correlation = None; attachment = None }) end three m.response (spelled_response m.response sized.response)
+    (λ r is. message_text meta_field (record { request = m.request; response = None; compress = None; correlation = None; attachment = None })
+    (record { request = m.request; response = Some r; compress = None; correlation = None; attachment = None }) end 2 (response_bytes r) three (omega arith) (omega arith) (response_len r is)
     (λ at stop. rw (response_again r stop is) refl))
-    ∙ message_present (FitsSigned w32) (number_bytes 3) meta_field (λ o. record { request = m.request; response = m.response; compress = o; correlation = None; attachment = None }) end four m.compress sized.compress
-    (λ z fits. message_number meta_field (record { request = m.request; response = m.response; compress = None; correlation = None; attachment = None }) (record { request = m.request; response = m.response; compress = Some z; correlation = None; attachment = None }) end 3 z four (omega arith) (omega arith) (unsigned_below z (fits_wide z fits))
+    ∙ message_present (FitsSigned w32) (number_bytes 3) meta_field (λ o. record { request = m.request; response = m.response; compress = o; correlation = None; attachment = None }) end four
+    m.compress sized.compress
+    (λ z fits. message_number meta_field (record { request = m.request; response = m.response; compress = None; correlation = None; attachment = None })
+    (record { request = m.request; response = m.response; compress = Some z; correlation = None; attachment = None }) end 3 z four (omega arith) (omega arith) (unsigned_below z (fits_wide z fits))
     (λ at stop. ap (λ (x : ℤ). Ok (record { request = m.request; response = m.response; compress = Some x; correlation = None; attachment = None })) (int32_again z fits)))
-    ∙ message_present (FitsSigned w64) (number_bytes 4) meta_field (λ o. record { request = m.request; response = m.response; compress = m.compress; correlation = o; attachment = None }) end five m.correlation sized.correlation
-    (λ z fits. message_number meta_field (record { request = m.request; response = m.response; compress = m.compress; correlation = None; attachment = None }) (record { request = m.request; response = m.response; compress = m.compress; correlation = Some z; attachment = None }) end 4 z five (omega arith) (omega arith) (unsigned_below z fits)
+    ∙ message_present (FitsSigned w64) (number_bytes 4) meta_field (λ o. record { request = m.request; response = m.response; compress = m.compress; correlation = o; attachment = None }) end
+    five m.correlation sized.correlation
+    (λ z fits. message_number meta_field (record { request = m.request; response = m.response; compress = m.compress; correlation = None; attachment = None })
+    (record { request = m.request; response = m.response; compress = m.compress; correlation = Some z; attachment = None }) end 4 z five (omega arith) (omega arith) (unsigned_below z fits)
     (λ at stop. ap (λ (x : ℤ). Ok (record { request = m.request; response = m.response; compress = m.compress; correlation = Some x; attachment = None })) (to_z-of_z w64 z fits)))
-    ∙ message_present IsSize (number_bytes 5) meta_field (λ o. record { request = m.request; response = m.response; compress = m.compress; correlation = m.correlation; attachment = o }) end [] m.attachment (size m.attachment writable.attachment sized.attachment)
-    (λ z is. message_number meta_field (record { request = m.request; response = m.response; compress = m.compress; correlation = m.correlation; attachment = None }) (record { request = m.request; response = m.response; compress = m.compress; correlation = m.correlation; attachment = Some z }) end 5 z [] (omega arith) (omega arith) (unsigned_below z (fits_wide z is.fits))
+    ∙ message_present IsSize (number_bytes 5) meta_field (λ o. record { request = m.request; response = m.response; compress = m.compress; correlation = m.correlation; attachment = o }) end
+    [] m.attachment (size m.attachment writable.attachment sized.attachment)
+    (λ z is. message_number meta_field (record { request = m.request; response = m.response; compress = m.compress; correlation = m.correlation; attachment = None })
+    (record { request = m.request; response = m.response; compress = m.compress; correlation = m.correlation; attachment = Some z }) end 5 z [] (omega arith) (omega arith)
+    (unsigned_below z (fits_wide z is.fits))
     (λ at stop. rw (int32_again z is.fits, not_negative z is.some) refl))
     ∙ message_end meta_field m end
 

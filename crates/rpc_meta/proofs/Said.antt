@@ -6,18 +6,21 @@ use Rattle.rpc_meta.specs.Meta.Wire.{Field, Fields, said}
 use Rattle.rpc_meta.specs.Seen.{IsNext}
 
 -- the fault after the last field
-pub at_fault : {M : Type 0} (says : M → Field → Result M MetaFault) (m : M) (old : Fields) (total : Result M MetaFault) (e : MetaFault) → (old.list ≡ []) × (old.fault ≡ Some e) → said says m old.list old.fault ≡ total → total ≡ Err e
+pub at_fault : {M : Type 0} (says : M → Field → Result M MetaFault) (m : M) (old : Fields) (total : Result M MetaFault) (e : MetaFault) → (old.list ≡ []) × (old.fault ≡ Some e)
+    → said says m old.list old.fault ≡ total → total ≡ Err e
 unfolding said
 at_fault says m old total e h so_far = let one : said says m old.list old.fault ≡ Err e = rw (h.0, h.1) refl in sym so_far ∙ one
 
 -- a field that is a fault for what it is to say
-pub at_field : {M : Type 0} (says : M → Field → Result M MetaFault) (m : M) (f : Field) (old new : Fields) (total : Result M MetaFault) (e : MetaFault) → (old.list ≡ f ∷ new.list) × (old.fault ≡ new.fault) → says m f ≡ Err e
+pub at_field : {M : Type 0} (says : M → Field → Result M MetaFault) (m : M) (f : Field) (old new : Fields) (total : Result M MetaFault) (e : MetaFault)
+    → (old.list ≡ f ∷ new.list) × (old.fault ≡ new.fault) → says m f ≡ Err e
     → said says m old.list old.fault ≡ total → total ≡ Err e
 unfolding said
 at_field says m f old new total e h fails so_far = let one : said says m old.list old.fault ≡ Err e = rw (h.0, h.1, fails) refl in sym so_far ∙ one
 
 -- a field, and those after it
-pub goes_on : {M : Type 0} (says : M → Field → Result M MetaFault) (m next : M) (f : Field) (old new : Fields) (total : Result M MetaFault) → (old.list ≡ f ∷ new.list) × (old.fault ≡ new.fault) → says m f ≡ Ok next
+pub goes_on : {M : Type 0} (says : M → Field → Result M MetaFault) (m next : M) (f : Field) (old new : Fields) (total : Result M MetaFault)
+    → (old.list ≡ f ∷ new.list) × (old.fault ≡ new.fault) → says m f ≡ Ok next
     → said says m old.list old.fault ≡ total → said says next new.list new.fault ≡ total
 unfolding said
 goes_on says m next f old new total h here so_far =
@@ -25,7 +28,8 @@ goes_on says m next f old new total h here so_far =
     sym one ∙ so_far
 
 -- the end of the message
-pub at_end : {M : Type 0} (says : M → Field → Result M MetaFault) (m : M) (old : Fields) (total : Result M MetaFault) → (old.list ≡ []) × (old.fault ≡ None) → said says m old.list old.fault ≡ total → total ≡ Ok m
+pub at_end : {M : Type 0} (says : M → Field → Result M MetaFault) (m : M) (old : Fields) (total : Result M MetaFault) → (old.list ≡ []) × (old.fault ≡ None)
+    → said says m old.list old.fault ≡ total → total ≡ Ok m
 unfolding said
 at_end says m old total h so_far =
     let one : said says m old.list old.fault ≡ Ok m = rw (h.0, h.1) refl in

@@ -1,16 +1,19 @@
 -- What is left after a field is shorter, and so the fields of a message don't depend on how many there may be.
-use Rattle.std.proofs.Common.{◌≡◌, ℕ, zero, suc, ◌+◌, ◌-◌, ◌*◌, ◌/◌, ◌%◌, ◌^◌, ◌<◌, ◌≤◌, Bool, true, false, cond, eqb, ltb, List, [], ◌∷◌, length, take, drop, Some, None, Result, Ok, Err, refl, ap, ◌∙◌, arith}
+use Rattle.std.proofs.Common.{◌≡◌, ℕ, zero, suc, ◌+◌, ◌-◌, ◌*◌, ◌/◌, ◌%◌, ◌^◌, ◌<◌, ◌≤◌, Bool, true, false, cond, eqb, ltb, List, [], ◌∷◌, length, take, drop, Some, None, Result, Ok, Err}
+use Rattle.std.proofs.Common.{refl, ap, ◌∙◌, arith}
 use Rattle.std.proofs.lemmas.List.{length-drop}
 use Rattle.rpc_meta.specs.declared.fault.MetaFault.{MetaFault}
 use Rattle.rpc_meta.specs.declared.fault.MetaFault.TheVariants.{Cut, WireType}
-use Rattle.rpc_meta.specs.Meta.Wire.{◌>>=◌, groups, wrapped, piece, number, text, fixed, number_at, text_at, fixed_at, value_at, Field, place, is_bad_number, field, Fields, first_of, fields_within, fields}
+use Rattle.rpc_meta.specs.Meta.Wire.{◌>>=◌, groups, wrapped, piece, number, text, fixed, number_at, text_at, fixed_at, value_at, Field, place, is_bad_number, field, Fields, first_of}
+use Rattle.rpc_meta.specs.Meta.Wire.{fields_within, fields}
 
 -- fewer than n bytes are left
 abbrev pub Below : {X : Type 0} → ℕ → Result (X × List ℕ) MetaFault → Type 0
 Below n (Ok x) = length x.1 < n
 Below n (Err e) = Unit {0}
 
-bind_below : {X Y : Type 0} (n m : ℕ) (r : Result (X × List ℕ) MetaFault) (f : X × List ℕ → Result (Y × List ℕ) MetaFault) → Below n r → ((x : X × List ℕ) → length x.1 < n → Below m (f x)) → Below m (r >>= f)
+bind_below : {X Y : Type 0} (n m : ℕ) (r : Result (X × List ℕ) MetaFault) (f : X × List ℕ → Result (Y × List ℕ) MetaFault) → Below n r → ((x : X × List ℕ) → length x.1 < n → Below m (f x))
+    → Below m (r >>= f)
 bind_below n m (Ok x) f h g = g x h
 bind_below n m (Err e) f h g = tt
 
@@ -101,12 +104,14 @@ fields_none end (b ∷ bytes) e = absurd (omega arith)
 pub fields_some : (end : ℕ) (bytes : List ℕ) (f : Field) (rest : List ℕ) → 0 < length bytes → field end bytes ≡ Ok (f, rest)
     → ((fields end bytes).list ≡ f ∷ (fields end rest).list) × ((fields end bytes).fault ≡ (fields end rest).fault)
 fields_some end [] f rest h e = absurd (omega arith)
-fields_some end (b ∷ bytes) f rest h e = let step : fields end (b ∷ bytes) ≡ first_of (Ok (f, rest)) (λ t. fields end t) = fields_first end b bytes ∙ ap (λ (r : Result (Field × List ℕ) MetaFault). first_of r (λ t. fields end t)) e in
+fields_some end (b ∷ bytes) f rest h e = let step : fields end (b ∷ bytes) ≡ first_of (Ok (f, rest)) (λ t. fields end t) = fields_first end b bytes
+    ∙ ap (λ (r : Result (Field × List ℕ) MetaFault). first_of r (λ t. fields end t)) e in
     (ap (λ (fs : Fields). fs.list) step, ap (λ (fs : Fields). fs.fault) step)
 
 pub fields_fault : (end : ℕ) (bytes : List ℕ) (e : MetaFault) → 0 < length bytes → field end bytes ≡ Err e → ((fields end bytes).list ≡ []) × ((fields end bytes).fault ≡ Some e)
 fields_fault end [] d h e = absurd (omega arith)
-fields_fault end (b ∷ bytes) d h e = let step : fields end (b ∷ bytes) ≡ first_of (Err d) (λ t. fields end t) = fields_first end b bytes ∙ ap (λ (r : Result (Field × List ℕ) MetaFault). first_of r (λ t. fields end t)) e in
+fields_fault end (b ∷ bytes) d h e = let step : fields end (b ∷ bytes) ≡ first_of (Err d) (λ t. fields end t) = fields_first end b bytes
+    ∙ ap (λ (r : Result (Field × List ℕ) MetaFault). first_of r (λ t. fields end t)) e in
     (ap (λ (fs : Fields). fs.list) step, ap (λ (fs : Fields). fs.fault) step)
 
 pub ruleset field_steps = (fields_none, fields_some, fields_fault)

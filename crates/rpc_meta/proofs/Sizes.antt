@@ -29,7 +29,14 @@ count_group len n total lt le so_far = omega (arith, ap length (varint_more n lt
 
 pub request_size : (r : RequestMeta) → length (request_bytes r) ≡ text_size 1 (length r.service) + text_size 2 (length r.method) + length (if_present (number_bytes 3) r.log_id)
 unfolding request_bytes
-request_size r = omega (arith, length-append (text_bytes 1 r.service ++ text_bytes 2 r.method) (if_present (number_bytes 3) r.log_id), length-append (text_bytes 1 r.service) (text_bytes 2 r.method), length-text_bytes 1 r.service, length-text_bytes 2 r.method)
+request_size r =
+    omega (
+      arith,
+      length-append (text_bytes 1 r.service ++ text_bytes 2 r.method) (if_present (number_bytes 3) r.log_id),
+      length-append (text_bytes 1 r.service) (text_bytes 2 r.method),
+      length-text_bytes 1 r.service,
+      length-text_bytes 2 r.method,
+    )
 
 pub response_size : (r : ResponseMeta) → length (response_bytes r) ≡ length (if_present (number_bytes 1) r.code) + length (if_present (text_bytes 2) r.text)
 unfolding response_bytes

@@ -1,5 +1,6 @@
 -- The generated script is accepted, call by call.
-use Rattle.std.proofs.Common.{◌≡◌, ℕ, zero, suc, ◌+◌, ◌*◌, ◌/◌, ◌%◌, ◌<◌, ◌≤◌, Bool, true, false, cond, ◌==◌, nat_lt, List, [], ◌∷◌, ◌++◌, length, find, Some, Ok, Err, refl, codes, arith, ap, sym, subst, ◌∙◌, append_assoc, length-append, lit≤}
+use Rattle.std.proofs.Common.{◌≡◌, ℕ, zero, suc, ◌+◌, ◌*◌, ◌/◌, ◌%◌, ◌<◌, ◌≤◌, Bool, true, false, cond, ◌==◌, nat_lt, List, [], ◌∷◌, ◌++◌, length, find, Some, Ok, Err, refl, codes, arith}
+use Rattle.std.proofs.Common.{ap, sym, subst, ◌∙◌, append_assoc, length-append, lit≤}
 use Rattle.std.specs.Fmt.{decimal}
 use Rattle.std.specs.List.{slice_split}
 use Rattle.std.proofs.lemmas.List.{append-nil}
@@ -20,7 +21,8 @@ use Rattle.script_gen.specs.Generator.{name_of, leaf_of, channel_of, code_of, nt
 use Rattle.script_gen.proofs.Words.{IsWord, AreWords, spaced, split_front, words-within, words-short, decimal-word}
 use Rattle.script_gen.proofs.Settings.{settled, settings-say, settings-cut}
 use Rattle.script_gen.proofs.Known.{IsKnown, known, aim_word}
-use Rattle.script_gen.proofs.Said.{line-is, call-text, reply-text, join-text, before-later, before-append, found, calls-begun, calls-replied, calls-joined, events-more, weight-more, call-weighs, call-said, reply-said, join-said, uvw, call_words, reply_words, join_words, AreBefore, is_of, begin_act, reply_act, IsReady}
+use Rattle.script_gen.proofs.Said.{line-is, call-text, reply-text, join-text, before-later, before-append, found, calls-begun, calls-replied, calls-joined, events-more, weight-more}
+use Rattle.script_gen.proofs.Said.{call-weighs, call-said, reply-said, join-said, uvw, call_words, reply_words, join_words, AreBefore, is_of, begin_act, reply_act, IsReady}
 
 -- ---- the three lines
 
@@ -64,7 +66,8 @@ call-kind : (acts : List Act) (moment call name : List ℕ) → kind_says (settl
 unfolding fixed_line
 call-kind acts moment call name = refl
 
-reply-kind : (acts : List Act) (moment call aim code : List ℕ) → kind_says (settled acts) (codes "at" ∷ moment ∷ codes "reply" ∷ call ∷ aim ∷ code ∷ codes "t" ∷ []) ≡ reply_line (settled acts) moment call aim code (codes "t")
+reply-kind : (acts : List Act) (moment call aim code : List ℕ)
+    → kind_says (settled acts) (codes "at" ∷ moment ∷ codes "reply" ∷ call ∷ aim ∷ code ∷ codes "t" ∷ []) ≡ reply_line (settled acts) moment call aim code (codes "t")
 unfolding fixed_line
 reply-kind acts moment call aim code = refl
 
@@ -73,7 +76,8 @@ unfolding fixed_line
 join-kind acts call = refl
 
 -- the first of several lines is cut off
-front : (w : List ℕ) (ws : List (List ℕ)) (text rest : List ℕ) → AreWords (w ∷ ws) → text ++ rest ≡ spaced (w ∷ ws) ++ 10 ∷ rest → slice_split (λ b. b == 10) (text ++ rest) ≡ spaced (w ∷ ws) ∷ slice_split (λ b. b == 10) rest
+front : (w : List ℕ) (ws : List (List ℕ)) (text rest : List ℕ) → AreWords (w ∷ ws) → text ++ rest ≡ spaced (w ∷ ws) ++ 10 ∷ rest
+    → slice_split (λ b. b == 10) (text ++ rest) ≡ spaced (w ∷ ws) ∷ slice_split (λ b. b == 10) rest
 front w ws text rest h e = ap (λ (t : List ℕ). slice_split (λ b. b == 10) t) e ∙ split_front 32 126 10 (spaced (w ∷ ws)) rest (omega arith) (words-within w ws h)
 
 abbrev pieces : List ℕ → List (List ℕ)
@@ -96,21 +100,30 @@ call-read number draw call acts rest k r some few =
     let words1 = call-are (channel_of draw) call k few in
     let words2 = reply-are (channel_of draw) call draw k few in
     let words3 = join-are call few in
-    let cut1 = front (codes "at") (decimal (10 * call) ∷ codes "call" ∷ decimal call ∷ name_of (channel_of draw) ∷ uvw ∷ []) begins (replies ++ (joins ++ rest)) words1 (call-text (10 * call) call (name_of (channel_of draw)) (replies ++ (joins ++ rest))) in
-    let cut2 = front (codes "at") (decimal (10 * call + 1) ∷ codes "reply" ∷ decimal call ∷ aim_word (channel_of draw) call ∷ decimal (code_of draw) ∷ codes "t" ∷ []) replies (joins ++ rest) words2 (reply-text (10 * call + 1) call (leaf_of (channel_of draw) call) (code_of draw) (joins ++ rest)) in
+    let cut1 =
+    front (codes "at") (decimal (10 * call) ∷ codes "call" ∷ decimal call ∷ name_of (channel_of draw) ∷ uvw ∷ []) begins (replies ++ (joins ++ rest)) words1
+    (call-text (10 * call) call (name_of (channel_of draw)) (replies ++ (joins ++ rest))) in
+    let cut2 =
+    front (codes "at") (decimal (10 * call + 1) ∷ codes "reply" ∷ decimal call ∷ aim_word (channel_of draw) call ∷ decimal (code_of draw) ∷ codes "t" ∷ []) replies (joins ++ rest) words2
+    (reply-text (10 * call + 1) call (leaf_of (channel_of draw) call) (code_of draw) (joins ++ rest)) in
     let cut3 = front (codes "join") (decimal call ∷ []) joins rest words3 (join-text call rest) in
-    let found1 : find (λ c. c.0 == call) (calls_of a1) ≡ Some (call, k.number) = ap (λ (cs : List (ℕ × ℕ)). find (is_of call) cs) (calls-begun acts call k.number) ∙ found call k.number (calls_of acts) r.earlier in
+    let found1 : find (λ c. c.0 == call) (calls_of a1) ≡ Some (call, k.number) =
+    ap (λ (cs : List (ℕ × ℕ)). find (is_of call) cs) (calls-begun acts call k.number) ∙ found call k.number (calls_of acts) r.earlier in
     let found2 : find (λ c. c.0 == call) (calls_of a2) ≡ Some (call, k.number) = ap (λ (cs : List (ℕ × ℕ)). find (is_of call) cs) (calls-replied a1 call k.leaf (code_of draw)) ∙ found1 in
     let events1 = events-more acts (begin_act call k.number) in
     let events2 = events-more a1 (reply_act call k.leaf (code_of draw)) in
     let said1 = line-is (settled acts) (codes "at") (decimal (10 * call) ∷ codes "call" ∷ decimal call ∷ name_of (channel_of draw) ∷ uvw ∷ []) words1 (lit≤ tt) refl
     ∙ (call-kind acts (decimal (10 * call)) (decimal call) (name_of (channel_of draw)) ∙ call-said acts (channel_of draw) call k r some few) in
-    let said2 = line-is (settled a1) (codes "at") (decimal (10 * call + 1) ∷ codes "reply" ∷ decimal call ∷ aim_word (channel_of draw) call ∷ decimal (code_of draw) ∷ codes "t" ∷ []) words2 (lit≤ tt) refl
-    ∙ (reply-kind a1 (decimal (10 * call + 1)) (decimal call) (aim_word (channel_of draw) call) (decimal (code_of draw)) ∙ reply-said a1 (channel_of draw) call draw k (record { found = found1; events = omega (arith, events1, r.events) }) some few) in
+    let said2 =
+    line-is (settled a1) (codes "at") (decimal (10 * call + 1) ∷ codes "reply" ∷ decimal call ∷ aim_word (channel_of draw) call ∷ decimal (code_of draw) ∷ codes "t" ∷ []) words2 (lit≤ tt) refl
+    ∙ (reply-kind a1 (decimal (10 * call + 1)) (decimal call) (aim_word (channel_of draw) call) (decimal (code_of draw))
+    ∙ reply-said a1 (channel_of draw) call draw k (record { found = found1; events = omega (arith, events1, r.events) }) some few) in
     let said3 = line-is (settled a2) (codes "join") (decimal call ∷ []) words3 (lit≤ tt) refl
     ∙ (join-kind a2 (decimal call) ∙ join-said a2 call k.number found2 (omega (arith, events1, events2, r.events)) some few) in
     ap (λ (t : List ℕ). lines_say number (settled acts) (pieces t)) order
-    ∙ (ap (λ (ps : List (List ℕ)). lines_say number (settled acts) ps) (cut1 ∙ ap (λ (ps : List (List ℕ)). spaced (call_words (10 * call) call (name_of (channel_of draw))) ∷ ps) (cut2 ∙ ap (λ (ps : List (List ℕ)). spaced (reply_words (10 * call + 1) call (aim_word (channel_of draw) call) (decimal (code_of draw))) ∷ ps) cut3))
+    ∙ (ap (λ (ps : List (List ℕ)). lines_say number (settled acts) ps)
+    (cut1 ∙ ap (λ (ps : List (List ℕ)). spaced (call_words (10 * call) call (name_of (channel_of draw))) ∷ ps)
+    (cut2 ∙ ap (λ (ps : List (List ℕ)). spaced (reply_words (10 * call + 1) call (aim_word (channel_of draw) call) (decimal (code_of draw))) ∷ ps) cut3))
     ∙ rw (said1, said2, said3) refl)
 
 -- After them the next call is ready.
@@ -119,8 +132,10 @@ call-ready call number leaf code channel k acts r =
     let a1 = acts ++ begin_act call k.number ∷ [] in
     let a2 = (acts ++ begin_act call k.number ∷ []) ++ reply_act call leaf code ∷ [] in
     let all : calls_of (after_call call k.number leaf code acts) ≡ calls_of acts ++ (call, k.number) ∷ [] = calls-joined a2 call ∙ (calls-replied a1 call leaf code ∙ calls-begun acts call k.number) in
-    let count : length (calls_of (after_call call k.number leaf code acts)) ≡ length (calls_of acts) + 1 = ap (λ (cs : List (ℕ × ℕ)). length cs) all ∙ length-append (calls_of acts) ((call, k.number) ∷ []) in
-    let before : AreBefore (call + 1) (calls_of acts ++ (call, k.number) ∷ []) = before-append (call + 1) (calls_of acts) ((call, k.number) ∷ []) (before-later call (call + 1) (calls_of acts) (omega arith) r.earlier) (omega arith, tt) in
+    let count : length (calls_of (after_call call k.number leaf code acts)) ≡ length (calls_of acts) + 1 =
+    ap (λ (cs : List (ℕ × ℕ)). length cs) all ∙ length-append (calls_of acts) ((call, k.number) ∷ []) in
+    let before : AreBefore (call + 1) (calls_of acts ++ (call, k.number) ∷ []) =
+    before-append (call + 1) (calls_of acts) ((call, k.number) ∷ []) (before-later call (call + 1) (calls_of acts) (omega arith) r.earlier) (omega arith, tt) in
     let events1 = events-more acts (begin_act call k.number) in
     let events2 = events-more a1 (reply_act call leaf code) in
     let events3 = events-more a2 (Join call) in
@@ -146,7 +161,9 @@ unfolding lines_from
 calls-read zero number draw call acts r some few = (acts, end-says number acts)
 calls-read (suc more) number draw call acts r some few =
     let k = known (channel_of (next_draw draw)) call in
-    let rest = calls-read more (number + 1 + 1 + 1) (next_draw draw) (call + 1) (after_call call k.number k.leaf (code_of (next_draw draw)) acts) (call-ready call k.number k.leaf (code_of (next_draw draw)) (channel_of (next_draw draw)) k acts r) (omega arith) (omega arith) in
+    let rest =
+    calls-read more (number + 1 + 1 + 1) (next_draw draw) (call + 1) (after_call call k.number k.leaf (code_of (next_draw draw)) acts)
+    (call-ready call k.number k.leaf (code_of (next_draw draw)) (channel_of (next_draw draw)) k acts r) (omega arith) (omega arith) in
     (rest.0, call-read number (next_draw draw) call acts (lines_from (next_draw draw) (call + 1) more) k r some (omega arith) ∙ rest.1)
 
 -- ---- the length
@@ -165,11 +182,17 @@ calls-short (suc more) draw call few =
     let replies = spec.reply_line (10 * call + 1) call (leaf_of (channel_of (next_draw draw)) call) (code_of (next_draw draw)) in
     let joins = spec.join_line call in
     let rest = lines_from (next_draw draw) (call + 1) more in
-    let short1 = text-short (codes "at") (decimal (10 * call) ∷ codes "call" ∷ decimal call ∷ name_of (channel_of (next_draw draw)) ∷ uvw ∷ []) begins (call-are (channel_of (next_draw draw)) call k (omega arith)) (call-text (10 * call) call (name_of (channel_of (next_draw draw))) []) in
-    let short2 = text-short (codes "at") (decimal (10 * call + 1) ∷ codes "reply" ∷ decimal call ∷ aim_word (channel_of (next_draw draw)) call ∷ decimal (code_of (next_draw draw)) ∷ codes "t" ∷ []) replies (reply-are (channel_of (next_draw draw)) call (next_draw draw) k (omega arith)) (reply-text (10 * call + 1) call (leaf_of (channel_of (next_draw draw)) call) (code_of (next_draw draw)) []) in
+    let short1 =
+    text-short (codes "at") (decimal (10 * call) ∷ codes "call" ∷ decimal call ∷ name_of (channel_of (next_draw draw)) ∷ uvw ∷ []) begins
+    (call-are (channel_of (next_draw draw)) call k (omega arith)) (call-text (10 * call) call (name_of (channel_of (next_draw draw))) []) in
+    let short2 =
+    text-short (codes "at") (decimal (10 * call + 1) ∷ codes "reply" ∷ decimal call ∷ aim_word (channel_of (next_draw draw)) call ∷ decimal (code_of (next_draw draw)) ∷ codes "t" ∷ [])
+    replies (reply-are (channel_of (next_draw draw)) call (next_draw draw) k (omega arith))
+    (reply-text (10 * call + 1) call (leaf_of (channel_of (next_draw draw)) call) (code_of (next_draw draw)) []) in
     let short3 = text-short (codes "join") (decimal call ∷ []) joins (join-are call (omega arith)) (join-text call []) in
     let sizes = total begins replies joins rest in
-    sum_short (length begins) (length replies) (length joins) (length rest) more (length (((begins ++ replies) ++ joins) ++ rest)) sizes short1 short2 short3 (calls-short more (next_draw draw) (call + 1) (omega arith))
+    sum_short (length begins) (length replies) (length joins) (length rest) more (length (((begins ++ replies) ++ joins) ++ rest)) sizes short1 short2 short3
+    (calls-short more (next_draw draw) (call + 1) (omega arith))
   where
     total : (a b c d : List ℕ) → length (((a ++ b) ++ c) ++ d) ≡ length a + length b + length c + length d
     total a b c d = omega (arith, length-append ((a ++ b) ++ c) d, length-append (a ++ b) c, length-append a b)

@@ -1,5 +1,6 @@
 -- What each of the three lines of a call says.
-use Rattle.std.proofs.Common.{◌≡◌, ℕ, ◌+◌, ◌*◌, ◌/◌, ◌%◌, ◌<◌, ◌≤◌, Bool, true, false, cond, ◌==◌, nat_le, nat_lt, List, [], ◌∷◌, ◌++◌, length, find, Option, Some, None, Ok, refl, codes, arith, ap, ◌∙◌, append_assoc, eq-eqb, lit<}
+use Rattle.std.proofs.Common.{◌≡◌, ℕ, ◌+◌, ◌*◌, ◌/◌, ◌%◌, ◌<◌, ◌≤◌, Bool, true, false, cond, ◌==◌, nat_le, nat_lt, List, [], ◌∷◌, ◌++◌, length, find, Option, Some, None, Ok, refl, codes}
+use Rattle.std.proofs.Common.{arith, ap, ◌∙◌, append_assoc, eq-eqb, lit<}
 use Rattle.std.specs.Fmt.{decimal}
 use Rattle.std.specs.List.{slice_split, list_all}
 use Rattle.std.proofs.lemmas.List.{append-nil}
@@ -167,7 +168,8 @@ call-said acts channel call k r some few =
     let named : known_name names (name_of channel) ≡ Ok k.number = k.named in
     let narrow : is_narrow (plan chans k.number call) ≡ true = ap is_narrow k.planned ∙ k.narrow in
     let room : nat_lt (length (calls_of acts)) 100000 ≡ true = below (length (calls_of acts)) 100000 (omega (arith, r.calls)) in
-    let light : nat_le (total_weight chans acts + call_weight chans k.number call uvw) 1073741824 ≡ true = at_most (total_weight chans acts + call_weight chans k.number call uvw) 1073741824 (omega (arith, r.weight, call-weighs channel call k)) in
+    let light : nat_le (total_weight chans acts + call_weight chans k.number call uvw) 1073741824 ≡ true =
+    at_most (total_weight chans acts + call_weight chans k.number call uvw) 1073741824 (omega (arith, r.weight, call-weighs channel call k)) in
     rw (moment, number, fresh, named, uvw-is, narrow, room, light) refl
 
 -- a line begins this call before

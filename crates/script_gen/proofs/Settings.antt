@@ -41,7 +41,8 @@ y_chan = chan.Leaf (record { servers = 1 ∷ 2 ∷ []; retry = 1; backup = None;
 
 abbrev pub p_chan : Chan MapKind MergeKind
 p_chan = chan.Par (record {
-  subs = (record { map = map_kind.Index; merge = merge_kind.Cat; chan = 0 }) ∷ (record { map = map_kind.Same; merge = merge_kind.Cat; chan = 1 }) ∷ (record { map = map_kind.Split; merge = merge_kind.Cat; chan = 0 }) ∷ [];
+  subs = (record { map = map_kind.Index; merge = merge_kind.Cat; chan = 0 }) ∷ (record { map = map_kind.Same; merge = merge_kind.Cat; chan = 1 }) ∷
+      (record { map = map_kind.Split; merge = merge_kind.Cat; chan = 0 }) ∷ [];
   fail = 2;
   ok = 0;
   timeout = Some 600;

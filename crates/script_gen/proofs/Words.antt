@@ -1,5 +1,6 @@
 -- Words of a line, how a line of them is cut, and numbers that are read again.
-use Rattle.std.proofs.Common.{◌≡◌, ℕ, ◌+◌, ◌*◌, ◌%◌, ◌^◌, ◌<◌, ◌≤◌, Bool, true, false, not, cond, ◌&&◌, ◌||◌, ◌==◌, eq-eqb, nat_le, List, [], ◌∷◌, ◌++◌, length, get_or, refl, ap, ◌∙◌, rules, arith, length-append, Ok, Err}
+use Rattle.std.proofs.Common.{◌≡◌, ℕ, ◌+◌, ◌*◌, ◌%◌, ◌^◌, ◌<◌, ◌≤◌, Bool, true, false, not, cond, ◌&&◌, ◌||◌, ◌==◌, eq-eqb, nat_le, List, [], ◌∷◌, ◌++◌, length, get_or, refl, ap, ◌∙◌, rules}
+use Rattle.std.proofs.Common.{arith, length-append, Ok, Err}
 use Rattle.std.specs.Fmt.{decimal}
 use Rattle.std.specs.List.{list_all, slice_split, onto_first}
 use Rattle.std.proofs.lemmas.Bool.{and_parts, and_from, ne_eqb}

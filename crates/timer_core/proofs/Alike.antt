@@ -31,7 +31,8 @@ used_all P (l ∷ ls) (suc k) u h = list_of_all P ls k h
 
 -- a mark in a list is later than the base
 pub lists_later : (base now : ℕ) (heap : List (Reverse Entry)) (lists : List (List Entry)) → now ≤ base → IsSettled base heap lists → AreLater now (all_of (used_lists lists))
-lists_later base now heap lists l s = all_used (λ (e : Entry). now < e.moment) lists (λ k u. all_weaker (IsHome base k) (λ (e : Entry). now < e.moment) (λ e h. omega (arith, h.later, l)) (list_at lists k) (s.homes k u))
+lists_later base now heap lists l s =
+    all_used (λ (e : Entry). now < e.moment) lists (λ k u. all_weaker (IsHome base k) (λ (e : Entry). now < e.moment) (λ e h. omega (arith, h.later, l)) (list_at lists k) (s.homes k u))
 
 -- ---- what holds of the same entries in another order
 

@@ -28,8 +28,11 @@ wider count more k d at n es fs h e l = record { within = omega (arith, l.within
 pub chain_alike : (nodes more : List Node) (k d at : ℕ) → length nodes ≤ length more → Agree nodes more d at → IsChain nodes k d at → IsChain more k d at
 chain_alike nodes more k zero at l h c = tt
 chain_alike nodes more k (suc d) at l h c =
-    subst (λ (n : Node). IsLink (length more) k d at n (entries_from more d n.next) × IsChain more k d n.next) (sym h.0)
-    (wider (length nodes) (length more) k d at (node_at nodes at) (entries_from more d (node_at nodes at).next) (entries_from nodes d (node_at nodes at).next) l (entries_alike nodes more d (node_at nodes at).next h.1) c.0, chain_alike nodes more k d (node_at nodes at).next l h.1 c.1)
+    subst (λ (n : Node). IsLink (length more) k d at n (entries_from more d n.next) × IsChain more k d n.next) (sym h.0) (
+      wider (length nodes) (length more) k d at (node_at nodes at) (entries_from more d (node_at nodes at).next) (entries_from nodes d (node_at nodes at).next) l
+          (entries_alike nodes more d (node_at nodes at).next h.1) c.0,
+      chain_alike nodes more k d (node_at nodes at).next l h.1 c.1,
+    )
 
 -- a node of another list is none of this one's
 pub lacks_other : (nodes : List Node) (k d at x : ℕ) → IsChain nodes k d at → (node_at nodes x).list ≢ k → Lacks nodes d at x
@@ -40,8 +43,11 @@ lacks_other nodes k (suc d) at x c h =
 -- nor is a node with more behind it
 pub lacks_deeper : (nodes : List Node) (k d at x : ℕ) → IsChain nodes k d at → d < (node_at nodes x).depth → Lacks nodes d at x
 lacks_deeper nodes k zero at x c h = tt
-lacks_deeper nodes k (suc d) at x c h =
-    ((λ e. let same : (node_at nodes at).depth ≡ (node_at nodes x).depth = ap (λ i. (node_at nodes i).depth) e in omega (arith, c.0.deep, same, h)), lacks_deeper nodes k d (node_at nodes at).next x c.1 (omega (arith, h)))
+lacks_deeper nodes k (suc d) at x c h = (
+  (λ e. let same : (node_at nodes at).depth ≡ (node_at nodes x).depth = ap (λ i. (node_at nodes i).depth) e in omega (arith, c.0.deep, same, h)),
+  lacks_deeper nodes k d
+      (node_at nodes at).next x c.1 (omega (arith, h)),
+)
 
 pub agree_set : (nodes : List Node) (x : ℕ) (n : Node) (d at : ℕ) → Lacks nodes d at x → Agree nodes (set nodes x n) d at
 agree_set nodes x n zero at h = tt

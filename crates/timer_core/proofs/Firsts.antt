@@ -63,7 +63,8 @@ module _ (base : ℕ) (heap : List (Reverse Entry)) (lists : List (List Entry)) 
   least_of_all = all_used (λ (e : Entry). least_of (list_at lists list) ≤ e.moment) lists (λ k u. elim (cases_eq k list) [
     | inl same ↦ subst (λ (i : ℕ). AllByRecursion (λ (e : Entry). least_of (list_at lists list) ≤ e.moment) (list_at lists i)) (sym same) (least_all (list_at lists list))
     | inr other ↦
-        all_weaker (λ (e : Entry). (least_of (list_at lists list) < e.moment) × IsHome base k e) (λ (e : Entry). least_of (list_at lists list) ≤ e.moment) (λ e h. let l = h.0 in omega (arith, l)) (list_at lists k) (list_from_least k u other)
+        all_weaker (λ (e : Entry). (least_of (list_at lists list) < e.moment) × IsHome base k e) (λ (e : Entry). least_of (list_at lists list) ≤ e.moment)
+        (λ e h. let l = h.0 in omega (arith, l)) (list_at lists k) (list_from_least k u other)
   ])
 
   -- where the heap is empty the first list has the first moment
@@ -87,14 +88,16 @@ module _ (base : ℕ) (heap : List (Reverse Entry)) (lists : List (List Entry)) 
     sinking = sinking_all (list_at lists list) (least_all (list_at lists list)) (s.homes list first.used);
   }
     where
-      sinking_all : (es : List Entry) → AllByRecursion (λ (e : Entry). least_of (list_at lists list) ≤ e.moment) es → AllByRecursion (IsHome base list) es → AllByRecursion (IsSinking (least_of (list_at lists list)) list) es
+      sinking_all : (es : List Entry) → AllByRecursion (λ (e : Entry). least_of (list_at lists list) ≤ e.moment) es → AllByRecursion (IsHome base list) es
+          → AllByRecursion (IsSinking (least_of (list_at lists list)) list) es
       sinking_all [] a h = tt
       sinking_all (e ∷ es) a h =
           let b = least_facts.0 in (
             record {
               from = a.0;
               within = h.0.within;
-              sinks = λ l. subst (λ (i : ℕ). home_of (least_of (list_at lists list)) e.moment < i) least_facts.1 (home_sinks base (least_of (list_at lists list)) e.moment (omega (arith, b)) l h.0.within (h.0.home ∙ sym least_facts.1));
+              sinks = λ l. subst (λ (i : ℕ). home_of (least_of (list_at lists list)) e.moment < i) least_facts.1
+                  (home_sinks base (least_of (list_at lists list)) e.moment (omega (arith, b)) l h.0.within (h.0.home ∙ sym least_facts.1));
             },
             sinking_all es a.1 h.1,
           )
@@ -108,9 +111,11 @@ none_listed (l ∷ ls) h = none_in ls (λ k. h (suc k) (omega arith))
     none_in (z ∷ zs) g = ap (λ (es : List Entry). es ++ all_of zs) (g 0) ∙ none_in zs (λ k. g (suc k))
 
 -- after the base went to the first moment, an entry is in the heap
-pub reached_some : (moment : ℕ) (old : List Entry) (heap : List (Reverse Entry)) (lists : List (List Entry)) → IsFirstMoment old moment → AreAlike old (waiting_of heap lists) → IsSettled moment heap lists → heap ≡ [] → ⊥
+pub reached_some : (moment : ℕ) (old : List Entry) (heap : List (Reverse Entry)) (lists : List (List Entry)) → IsFirstMoment old moment → AreAlike old (waiting_of heap lists)
+    → IsSettled moment heap lists → heap ≡ [] → ⊥
 reached_some moment old heap lists f a s none =
-    f.there (later_alike moment (waiting_of heap lists) old (record { same = λ w. sym (a.same w) }) (subst (λ (h : List (Reverse Entry)). AreLater moment (waiting_of h lists)) (sym none) (lists_later moment moment heap lists (omega arith) s)))
+    f.there (later_alike moment (waiting_of heap lists) old (record { same = λ w. sym (a.same w) })
+    (subst (λ (h : List (Reverse Entry)). AreLater moment (waiting_of h lists)) (sym none) (lists_later moment moment heap lists (omega arith) s)))
 
 -- nothing waits
 pub none_waits : (now : ℕ) (heap : List (Reverse Entry)) (lists : List (List Entry)) → heap ≡ [] → ((k : ℕ) → 0 < k → list_at lists k ≡ []) → waiting_of heap lists ≡ []

@@ -39,11 +39,15 @@ module _ (base next count room : ℕ) (heap more : List (Reverse Entry)) (old ne
   numbered : AllByRecursion (λ (e : Entry). e.order < next) (waiting_of heap old)
   numbered = all_weaker (λ (e : Entry). ltb e.order next ≡ true) (λ (e : Entry). e.order < next) (λ e h. test_below e.order next h) (waiting_of heap old) w.orders
 
-  pub added_wheel : (room' : ℕ) (mark : Mark) → IsSettled base more new → AreAlike (entry_of next mark ∷ waiting_of heap old) (waiting_of more new) → count + 1 ≤ room' → IsWheel base (next + 1) (count + 1) room' more new
+  pub added_wheel : (room' : ℕ) (mark : Mark) → IsSettled base more new → AreAlike (entry_of next mark ∷ waiting_of heap old) (waiting_of more new) → count + 1 ≤ room'
+      → IsWheel base (next + 1) (count + 1) room' more new
   added_wheel room' mark s a r = record {
     settled = s;
-    orders = pass_alike (λ (e : Entry). ltb e.order (next + 1)) (entry_of next mark ∷ waiting_of heap old) (waiting_of more new) a
-        (below_test next (next + 1) (omega arith), all_weaker (λ (e : Entry). e.order < next) (λ (e : Entry). ltb e.order (next + 1) ≡ true) (λ e h. below_test e.order (next + 1) (omega (arith, h))) (waiting_of heap old) numbered);
+    orders = pass_alike (λ (e : Entry). ltb e.order (next + 1)) (entry_of next mark ∷ waiting_of heap old) (waiting_of more new) a (
+      below_test next (next + 1) (omega arith),
+      all_weaker (λ (e : Entry). e.order < next) (λ (e : Entry). ltb e.order (next + 1) ≡ true)
+          (λ e h. below_test e.order (next + 1) (omega (arith, h))) (waiting_of heap old) numbered,
+    );
     counted = let l = length_alike (entry_of next mark ∷ waiting_of heap old) (waiting_of more new) a in omega (arith, l, w.counted);
     roomy = r;
   }
@@ -85,7 +89,8 @@ module _ (base next count room : ℕ) (heap more : List (Reverse Entry)) (old ne
     roomy = omega (arith, r, w.roomy);
   }
 
-module _ (heap more : List (Reverse Entry)) (old new : List (List Entry)) (e : Entry) (now : ℕ) (a : AreAlike (waiting_of heap old) (e ∷ waiting_of more new)) (l : IsLeast e (waiting_of more new)) (d : e.moment ≤ now) where
+module _ (heap more : List (Reverse Entry)) (old new : List (List Entry)) (e : Entry) (now : ℕ) (a : AreAlike (waiting_of heap old) (e ∷ waiting_of more new))
+    (l : IsLeast e (waiting_of more new)) (d : e.moment ≤ now) where
   order : marks_of heap old ≡ map mark_of (e ∷ in_order (waiting_of more new))
   order = ap (λ (es : List Entry). map mark_of es) (order_taken (waiting_of heap old) (waiting_of more new) e a l)
 
@@ -98,7 +103,8 @@ module _ (heap more : List (Reverse Entry)) (old new : List (List Entry)) (e : E
   pub taken_first : IsFirst (mark_of e) (marks_of heap old)
   taken_first =
       subst (λ (ms : List Mark). IsFirst (mark_of e) ms) (sym order)
-      (first (mark_of e) (map mark_of (in_order (waiting_of more new))) (subst (λ (ms : List Mark). IsSorted ms) order (sorted_marks (in_order (waiting_of heap old)) (ascending_in_order (waiting_of heap old)))))
+      (first (mark_of e) (map mark_of (in_order (waiting_of more new)))
+      (subst (λ (ms : List Mark). IsSorted ms) order (sorted_marks (in_order (waiting_of heap old)) (ascending_in_order (waiting_of heap old)))))
 
 module _ (heap more : List (Reverse Entry)) (old new : List (List Entry)) (now : ℕ) (a : AreAlike (waiting_of heap old) (waiting_of more new)) (l : AreLater now (waiting_of more new)) where
   same_order : marks_of heap old ≡ marks_of more new
@@ -130,7 +136,8 @@ nil_from_length [] h = refl
 nil_from_length (m ∷ ms) h = absurd (omega (arith, h))
 
 -- the first moment that waits is that of the first mark
-pub moment_told : (result : Option ℕ) (heap : List (Reverse Entry)) (lists : List (List Entry)) → MatchOption result (waiting_of heap lists ≡ []) (λ m. IsFirstMoment (waiting_of heap lists) m) → result ≡ first_moment (marks_of heap lists)
+pub moment_told : (result : Option ℕ) (heap : List (Reverse Entry)) (lists : List (List Entry))
+    → MatchOption result (waiting_of heap lists ≡ []) (λ m. IsFirstMoment (waiting_of heap lists) m) → result ≡ first_moment (marks_of heap lists)
 moment_told None heap lists h = sym (ap (λ (es : List Entry). first_moment (map mark_of (in_order es))) h)
 moment_told (Some m) heap lists h = first_told m (waiting_of heap lists) h
 

@@ -12,7 +12,8 @@ use Rattle.timer_core.specs.Wheel.{IsFirstList}
 use Rattle.timer_core.proofs.Told.{counted, vacant_told, vacant_depth}
 
 -- one list changes
-pub one_noted : (ends : List End) (list : ℕ) (end : End) (old new : List ℕ) → list < length ends → AreNoted ends old → IsNoted list (end_at (set ends list end) list) old new → AreNoted (set ends list end) new
+pub one_noted : (ends : List End) (list : ℕ) (end : End) (old new : List ℕ) → list < length ends → AreNoted ends old → IsNoted list (end_at (set ends list end) list) old new
+    → AreNoted (set ends list end) new
 one_noted ends list end old new l a n =
     let long : length (set ends list end) ≡ length ends = length-set ends list end in
     record {
@@ -81,7 +82,8 @@ module _ (nodes : List Node) (ends : List End) (used : List ℕ) (ls : List (Lis
     ]
   ]
 
-pub one_noted_as : (ends more : List End) (list : ℕ) (end : End) (old new : List ℕ) → more ≡ set ends list end → list < length ends → AreNoted ends old → IsNoted list (end_at more list) old new → AreNoted more new
+pub one_noted_as : (ends more : List End) (list : ℕ) (end : End) (old new : List ℕ) → more ≡ set ends list end → list < length ends → AreNoted ends old
+    → IsNoted list (end_at more list) old new → AreNoted more new
 one_noted_as ends more list end old new is l a n =
     subst (λ (zs : List End). AreNoted zs new) (sym is) (one_noted ends list end old new l a (subst (λ (zs : List End). IsNoted list (end_at zs list) old new) is n))
 

@@ -52,8 +52,14 @@ all_with_one P mark (m ∷ ms) h a = all_added_if P mark m ms (added mark ms) (c
 
 sorted_if : (mark m : Mark) (ms rest : List Mark) (b : Bool) → comes_after m mark ≡ b → IsSorted (m ∷ ms)
     → (comes_after m mark ≡ false → IsFirst m rest) → IsSorted rest → IsSorted (cond b (mark ∷ m ∷ ms) (m ∷ rest))
-sorted_if mark m ms rest true e h k r =
-    ((later_apart m.moment m.rank mark.moment mark.rank e, all_weaker (λ other. comes_after m other ≡ false) (λ other. comes_after mark other ≡ false) (λ other n. not_later_trans m.moment m.rank mark.moment mark.rank other.moment other.rank e n) ms h.0), h)
+sorted_if mark m ms rest true e h k r = (
+  (
+    later_apart m.moment m.rank mark.moment mark.rank e,
+    all_weaker (λ other. comes_after m other ≡ false) (λ other. comes_after mark other ≡ false)
+        (λ other n. not_later_trans m.moment m.rank mark.moment mark.rank other.moment other.rank e n) ms h.0,
+  ),
+  h,
+)
 sorted_if mark m ms rest false e h k r = (k e, r)
 
 -- a list that is sorted stays so with one more mark
@@ -90,7 +96,8 @@ pub all_kept : (marks more : List Mark) → IsPermutation (marks ++ more) (all_a
 all_kept marks [] = subst (λ (xs : List Mark). IsPermutation xs marks) (sym (append-nil marks)) (IsPermutation-refl marks)
 all_kept marks (m ∷ more) =
     IsPermutation-trans (marks ++ m ∷ more) (m ∷ (marks ++ more)) (all_added (added m marks) more) (IsPermutation-middle marks m more)
-    (IsPermutation-trans (m ∷ (marks ++ more)) (added m marks ++ more) (all_added (added m marks) more) (IsPermutation-append_left more (m ∷ marks) (added m marks) (kept m marks)) (all_kept (added m marks) more))
+    (IsPermutation-trans (m ∷ (marks ++ more)) (added m marks ++ more) (all_added (added m marks) more) (IsPermutation-append_left more (m ∷ marks) (added m marks) (kept m marks))
+    (all_kept (added m marks) more))
 
 took_if : (b : Bool) (m mark : Mark) (ms : List Mark) → cond b (Some m) None ≡ Some mark → m ∷ ms ≡ mark ∷ cond b ms (m ∷ ms)
 took_if true m mark ms e = cc
@@ -115,13 +122,18 @@ filter_none p [] h = refl
 filter_none p (x ∷ xs) h = ap (λ b. cond b (x ∷ filter p xs) (filter p xs)) h.0 ∙ filter_none p xs h.1
 
 -- a mark in front of marks that come after it, or behind them
-filter_moved : (p : Mark → Bool) (mark : Mark) (ms : List Mark) (b : Bool) → p mark ≡ b → (b ≡ true → AllByRecursion (λ m. p m ≡ false) ms) → cond b (mark ∷ filter p ms) (filter p ms) ≡ filter p ms ++ cond b (mark ∷ []) []
+filter_moved : (p : Mark → Bool) (mark : Mark) (ms : List Mark) (b : Bool) → p mark ≡ b → (b ≡ true → AllByRecursion (λ m. p m ≡ false) ms)
+    → cond b (mark ∷ filter p ms) (filter p ms) ≡ filter p ms ++ cond b (mark ∷ []) []
 filter_moved p mark ms true e h = let n = filter_none p ms (h refl) in ap (λ zs. mark ∷ zs) n ∙ ap (λ zs. zs ++ mark ∷ []) (sym n)
 filter_moved p mark ms false e h = sym (append-nil (filter p ms))
 
-apart : (moment rank : ℕ) (mark m : Mark) (ms : List Mark) → comes_after m mark ≡ true → IsFirst m ms → is_at moment rank mark ≡ true → AllByRecursion (λ other. is_at moment rank other ≡ false) (m ∷ ms)
-apart moment rank mark m ms e h k =
-    (later_differs m.moment m.rank mark.moment mark.rank moment rank e k, all_weaker (λ other. comes_after m other ≡ false) (λ other. is_at moment rank other ≡ false) (λ other n. later_differs other.moment other.rank mark.moment mark.rank moment rank (later_trans m.moment m.rank mark.moment mark.rank other.moment other.rank e n) k) ms h)
+apart : (moment rank : ℕ) (mark m : Mark) (ms : List Mark) → comes_after m mark ≡ true → IsFirst m ms → is_at moment rank mark ≡ true
+    → AllByRecursion (λ other. is_at moment rank other ≡ false) (m ∷ ms)
+apart moment rank mark m ms e h k = (
+  later_differs m.moment m.rank mark.moment mark.rank moment rank e k,
+  all_weaker (λ other. comes_after m other ≡ false) (λ other. is_at moment rank other ≡ false)
+      (λ other n. later_differs other.moment other.rank mark.moment mark.rank moment rank (later_trans m.moment m.rank mark.moment mark.rank other.moment other.rank e n) k) ms h,
+)
 
 equal_if : (moment rank : ℕ) (mark m : Mark) (ms rest : List Mark) (b : Bool) → comes_after m mark ≡ b → IsSorted (m ∷ ms)
     → filter (is_at moment rank) rest ≡ filter (is_at moment rank) (ms ++ mark ∷ [])

@@ -101,9 +101,16 @@ pub all_in_order : (P : Entry → Type 0) (es : List Entry) → AllByRecursion P
 all_in_order P [] h = tt
 all_in_order P (e ∷ es) h = all_with P e (in_order es) h.0 (all_in_order P es h.1)
 
-ascending_if : (e f : Entry) (fs rest : List Entry) (b : Bool) → is_after f e ≡ b → AreAscending (f ∷ fs) → (is_after f e ≡ false → IsLeast f rest) → AreAscending rest → AreAscending (cond b (e ∷ f ∷ fs) (f ∷ rest))
-ascending_if e f fs rest true t h k r =
-    ((past_apart f.moment f.rank f.order f.id f.code e.moment e.rank e.order e.id e.code t, all_weaker (λ o. is_after f o ≡ false) (λ o. is_after e o ≡ false) (λ o n. past_trans f.moment f.rank f.order f.id f.code e.moment e.rank e.order e.id e.code o.moment o.rank o.order o.id o.code t n) fs h.0), h)
+ascending_if : (e f : Entry) (fs rest : List Entry) (b : Bool) → is_after f e ≡ b → AreAscending (f ∷ fs) → (is_after f e ≡ false → IsLeast f rest) → AreAscending rest
+    → AreAscending (cond b (e ∷ f ∷ fs) (f ∷ rest))
+ascending_if e f fs rest true t h k r = (
+  (
+    past_apart f.moment f.rank f.order f.id f.code e.moment e.rank e.order e.id e.code t,
+    all_weaker (λ o. is_after f o ≡ false) (λ o. is_after e o ≡ false)
+        (λ o n. past_trans f.moment f.rank f.order f.id f.code e.moment e.rank e.order e.id e.code o.moment o.rank o.order o.id o.code t n) fs h.0,
+  ),
+  h,
+)
 ascending_if e f fs rest false t h k r = (k t, r)
 
 pub ascending_with : (e : Entry) (es : List Entry) → AreAscending es → AreAscending (with_entry e es)

@@ -22,7 +22,9 @@ unfolding list_from
 low zero list m b = omega arith
 low (suc n) list m b = low_if n list m b (are_near m b) (low n (list + 256) (m / 256) (b / 256))
 
-within_if : (n list m b : ℕ) (t : Bool) → are_near m b ≡ t → b < m → m < 256 * span_of n → (b / 256 < m / 256 → m / 256 < span_of n → list_from n (list + 256) (m / 256) (b / 256) < list + 256 + 256 * n) → cond t (list + m % 256) (list_from n (list + 256) (m / 256) (b / 256)) < list + 256 * suc n
+within_if : (n list m b : ℕ) (t : Bool) → are_near m b ≡ t → b < m → m < 256 * span_of n
+    → (b / 256 < m / 256 → m / 256 < span_of n → list_from n (list + 256) (m / 256) (b / 256) < list + 256 + 256 * n)
+    → cond t (list + m % 256) (list_from n (list + 256) (m / 256) (b / 256)) < list + 256 * suc n
 within_if n list m b true e l s h = omega arith
 within_if n list m b false e l s h = let d = far_is m b e in let r = h (omega (arith, l, d)) (omega (arith, s)) in omega (arith, r)
 
@@ -51,7 +53,8 @@ rises (suc n) list m c b h k = rises_if n list m c b (are_near m b) (are_near c 
 
 stays_if : (n list m c b : ℕ) (t u v : Bool) → are_near c b ≡ t → are_near m b ≡ u → are_near m c ≡ v → b ≤ c → c ≤ m
     → cond u (list + m % 256) (list_from n (list + 256) (m / 256) (b / 256)) ≢ cond t (list + c % 256) (list_from n (list + 256) (c / 256) (b / 256))
-    → (b / 256 ≤ c / 256 → c / 256 ≤ m / 256 → list_from n (list + 256) (m / 256) (b / 256) ≢ list_from n (list + 256) (c / 256) (b / 256) → list_from n (list + 256) (m / 256) (c / 256) ≡ list_from n (list + 256) (m / 256) (b / 256))
+    → (b / 256 ≤ c / 256 → c / 256 ≤ m / 256 → list_from n (list + 256) (m / 256) (b / 256) ≢ list_from n (list + 256) (c / 256) (b / 256)
+    → list_from n (list + 256) (m / 256) (c / 256) ≡ list_from n (list + 256) (m / 256) (b / 256))
     → cond v (list + m % 256) (list_from n (list + 256) (m / 256) (c / 256)) ≡ cond u (list + m % 256) (list_from n (list + 256) (m / 256) (b / 256))
 stays_if n list m c b true u v e f g h k apart r =
     let q = near_is c b e in
@@ -71,7 +74,8 @@ sinks_if : (n list m c b : ℕ) (t u v : Bool) → are_near c b ≡ t → are_ne
     → list + 256 ≤ list_from n (list + 256) (m / 256) (b / 256)
     → list + 256 ≤ list_from n (list + 256) (c / 256) (b / 256)
     → cond u (list + m % 256) (list_from n (list + 256) (m / 256) (b / 256)) ≡ cond t (list + c % 256) (list_from n (list + 256) (c / 256) (b / 256))
-    → (b / 256 ≤ c / 256 → c / 256 < m / 256 → m / 256 < span_of n → list_from n (list + 256) (m / 256) (b / 256) ≡ list_from n (list + 256) (c / 256) (b / 256) → list_from n (list + 256) (m / 256) (c / 256) < list_from n (list + 256) (c / 256) (b / 256))
+    → (b / 256 ≤ c / 256 → c / 256 < m / 256 → m / 256 < span_of n → list_from n (list + 256) (m / 256) (b / 256) ≡ list_from n (list + 256) (c / 256) (b / 256)
+    → list_from n (list + 256) (m / 256) (c / 256) < list_from n (list + 256) (c / 256) (b / 256))
     → cond v (list + m % 256) (list_from n (list + 256) (m / 256) (c / 256)) < cond t (list + c % 256) (list_from n (list + 256) (c / 256) (b / 256))
 sinks_if n list m c b true true v e f g h k s w x same r = let p = near_is c b e in let q = near_is m b f in absurd (omega (arith, p, q, same, k))
 sinks_if n list m c b true false v e f g h k s w x same r = absurd (omega (arith, w, same))
@@ -84,7 +88,8 @@ pub sinks : (n list m c b : ℕ) → b ≤ c → c < m → m < span_of n → lis
 unfolding list_from
 sinks zero list m c b h k s same = absurd (omega (arith, k, s))
 sinks (suc n) list m c b h k s same =
-    sinks_if n list m c b (are_near c b) (are_near m b) (are_near m c) refl refl refl h k s (low n (list + 256) (m / 256) (b / 256)) (low n (list + 256) (c / 256) (b / 256)) same (sinks n (list + 256) (m / 256) (c / 256) (b / 256))
+    sinks_if n list m c b (are_near c b) (are_near m b) (are_near m c) refl refl refl h k s (low n (list + 256) (m / 256) (b / 256)) (low n (list + 256) (c / 256) (b / 256)) same
+    (sinks n (list + 256) (m / 256) (c / 256) (b / 256))
 
 -- ---- the loop that finds a list
 

@@ -1,12 +1,14 @@
 -- A node that goes from one list to another: the lists then, and that each node still stands in one list, once.
-use Rattle.std.proofs.Common.{◌≡◌, ℕ, suc, ◌+◌, ◌-◌, ◌<◌, ◌≤◌, ◌≢◌, inl, inr, List, ◌∷◌, length, set, sum_by, min, arith, refl, sym, ap, ◌∙◌, subst, get_or-set_other, get_or-set_same, add-one, length-set}
+use Rattle.std.proofs.Common.{◌≡◌, ℕ, suc, ◌+◌, ◌-◌, ◌<◌, ◌≤◌, ◌≢◌, inl, inr, List, ◌∷◌, length, set, sum_by, min, arith, refl, sym, ap, ◌∙◌, subst, get_or-set_other, get_or-set_same}
+use Rattle.std.proofs.Common.{add-one, length-set}
 use Rattle.std.proofs.lemmas.Bool.{cases_eq}
 use Rattle.std.proofs.lemmas.List.{map-set}
 use Rattle.std.proofs.lemmas.List.Sums.{sum_by-set, get_or-le-sum_by}
 use Rattle.timer_core.specs.declared.entry.Entry.{Entry}
 use Rattle.timer_core.specs.declared.links.Node.{Node}
 use Rattle.timer_core.specs.declared.links.End.{End}
-use Rattle.timer_core.specs.Chains.{blank_node, no_nodes, node_at, end_at, entries_from, entries_of, lists_of, list_at, least_of, rest_of, front_before, IsShifted, linked, unlinked, IsLink, IsChain, depth_of, AreChained}
+use Rattle.timer_core.specs.Chains.{blank_node, no_nodes, node_at, end_at, entries_from, entries_of, lists_of, list_at, least_of, rest_of, front_before, IsShifted, linked, unlinked, IsLink}
+use Rattle.timer_core.specs.Chains.{IsChain, depth_of, AreChained}
 use Rattle.timer_core.proofs.Chained.{Agree, Lacks, entries_alike, chain_alike, lacks_other, lacks_deeper, agree_set, least_told, map_alike, list_told}
 
 -- where a list begins that has one node more in front
@@ -15,7 +17,9 @@ longer x end = record { head = x; depth = end.depth + 1 }
 
 -- ---- a node in front of a list
 
-module _ (nodes more : List Node) (ends : List End) (to x : ℕ) (e : Entry) (b : End) (b_is : end_at ends to ≡ b) (l : length nodes ≤ length more) (w : x < length more) (t : to < length ends) (is : node_at more x ≡ linked nodes b to e) (chains : (k : ℕ) → k < length ends → IsChain nodes k (end_at ends k).depth (end_at ends k).head × Agree nodes more (end_at ends k).depth (end_at ends k).head) where
+module _ (nodes more : List Node) (ends : List End) (to x : ℕ) (e : Entry) (b : End) (b_is : end_at ends to ≡ b) (l : length nodes ≤ length more) (w : x < length more) (t : to < length ends)
+    (is : node_at more x ≡ linked nodes b to e) (chains : (k : ℕ) → k < length ends
+    → IsChain nodes k (end_at ends k).depth (end_at ends k).head × Agree nodes more (end_at ends k).depth (end_at ends k).head) where
   behind : IsChain nodes to b.depth b.head × Agree nodes more b.depth b.head
   behind = subst (λ (z : End). IsChain nodes to z.depth z.head × Agree nodes more z.depth z.head) b_is (chains to t)
 
@@ -30,7 +34,8 @@ module _ (nodes more : List Node) (ends : List End) (to x : ℕ) (e : Entry) (b 
   attached_lists =
       map-set (entries_of more) ends to (longer x b)
       ∙ ap (λ (es : List Entry). set (lists_of more ends) to es) (front_entries ∙ ap (λ (es : List Entry). e ∷ es) (sym (list_told nodes ends to ∙ ap (λ z. entries_of nodes z) b_is)))
-      ∙ ap (λ (ls : List (List Entry)). set ls to (e ∷ list_at (lists_of nodes ends) to)) (map_alike (entries_of more) (entries_of nodes) no_nodes ends (λ k h. entries_alike nodes more (end_at ends k).depth (end_at ends k).head (chains k h).1))
+      ∙ ap (λ (ls : List (List Entry)). set ls to (e ∷ list_at (lists_of nodes ends) to))
+      (map_alike (entries_of more) (entries_of nodes) no_nodes ends (λ k h. entries_alike nodes more (end_at ends k).depth (end_at ends k).head (chains k h).1))
 
   front_link : IsLink (length more) to b.depth x (linked nodes b to e) (entries_from more b.depth b.head)
   front_link = record {
@@ -60,7 +65,8 @@ module _ (nodes more : List Node) (ends : List End) (to x : ℕ) (e : Entry) (b 
 
 -- ---- a list without its first node
 
-first_link : (nodes : List Node) (k d : ℕ) (e : End) → e.depth ≡ suc d → IsChain nodes k e.depth e.head → IsLink (length nodes) k d e.head (node_at nodes e.head) (entries_from nodes d (node_at nodes e.head).next) × IsChain nodes k d (node_at nodes e.head).next
+first_link : (nodes : List Node) (k d : ℕ) (e : End) → e.depth ≡ suc d → IsChain nodes k e.depth e.head
+    → IsLink (length nodes) k d e.head (node_at nodes e.head) (entries_from nodes d (node_at nodes e.head).next) × IsChain nodes k d (node_at nodes e.head).next
 first_link nodes k d e s c = subst (λ n. IsChain nodes k n e.head) s c
 
 pub depth_is : (e : End) → 0 < e.depth → e.depth ≡ suc (e.depth - 1)
@@ -73,8 +79,10 @@ first_within nodes k e h c = (first_link nodes k (e.depth - 1) e (depth_is e h) 
 pub rest_told : (nodes : List Node) (e : End) → 0 < e.depth → entries_of nodes e ≡ (node_at nodes e.head).entry ∷ entries_of nodes (unlinked nodes e)
 rest_told nodes e h = ap (λ d. entries_from nodes d e.head) (depth_is e h)
 
-module _ (nodes : List Node) (ends : List End) (from : ℕ) (f : from < length ends) (some : 0 < (end_at ends from).depth) (chains : (k : ℕ) → k < length ends → IsChain nodes k (end_at ends k).depth (end_at ends k).head) where
-  first_of_list : IsLink (length nodes) from ((end_at ends from).depth - 1) (end_at ends from).head (node_at nodes (end_at ends from).head) (entries_of nodes (unlinked nodes (end_at ends from))) × IsChain nodes from ((end_at ends from).depth - 1) (node_at nodes (end_at ends from).head).next
+module _ (nodes : List Node) (ends : List End) (from : ℕ) (f : from < length ends) (some : 0 < (end_at ends from).depth)
+    (chains : (k : ℕ) → k < length ends → IsChain nodes k (end_at ends k).depth (end_at ends k).head) where
+  first_of_list : IsLink (length nodes) from ((end_at ends from).depth - 1) (end_at ends from).head (node_at nodes (end_at ends from).head)
+      (entries_of nodes (unlinked nodes (end_at ends from))) × IsChain nodes from ((end_at ends from).depth - 1) (node_at nodes (end_at ends from).head).next
   first_of_list = first_link nodes from ((end_at ends from).depth - 1) (end_at ends from) (depth_is (end_at ends from) some) (chains from f)
 
   -- the lists then
@@ -84,12 +92,18 @@ module _ (nodes : List Node) (ends : List End) (from : ℕ) (f : from < length e
       ∙ ap (λ (es : List Entry). set (lists_of nodes ends) from es) (sym (ap (λ (es : List Entry). rest_of es) (list_told nodes ends from ∙ rest_told nodes (end_at ends from) some)))
 
   -- no list has the node any more, and each is still linked
-  pub detached_chains : (k : ℕ) → k < length (set ends from (unlinked nodes (end_at ends from))) → IsChain nodes k (end_at (set ends from (unlinked nodes (end_at ends from))) k).depth (end_at (set ends from (unlinked nodes (end_at ends from))) k).head × Lacks nodes (end_at (set ends from (unlinked nodes (end_at ends from))) k).depth (end_at (set ends from (unlinked nodes (end_at ends from))) k).head (end_at ends from).head
+  pub detached_chains : (k : ℕ) → k < length (set ends from (unlinked nodes (end_at ends from)))
+      → IsChain nodes k (end_at (set ends from (unlinked nodes (end_at ends from))) k).depth (end_at (set ends from (unlinked nodes (end_at ends from))) k).head × Lacks nodes
+      (end_at (set ends from (unlinked nodes (end_at ends from))) k).depth (end_at (set ends from (unlinked nodes (end_at ends from))) k).head (end_at ends from).head
   detached_chains k h = elim (cases_eq k from) [
     | inl s ↦
-        subst (λ (i : ℕ). IsChain nodes i (end_at (set ends from (unlinked nodes (end_at ends from))) i).depth (end_at (set ends from (unlinked nodes (end_at ends from))) i).head × Lacks nodes (end_at (set ends from (unlinked nodes (end_at ends from))) i).depth (end_at (set ends from (unlinked nodes (end_at ends from))) i).head (end_at ends from).head) (sym s)
-        (subst (λ (z : End). IsChain nodes from z.depth z.head × Lacks nodes z.depth z.head (end_at ends from).head) (sym (get_or-set_same ends from (unlinked nodes (end_at ends from)) no_nodes f))
-        (first_of_list.1, lacks_deeper nodes from ((end_at ends from).depth - 1) (node_at nodes (end_at ends from).head).next (end_at ends from).head first_of_list.1 (omega (arith, first_of_list.0.deep))))
+        subst (λ (i : ℕ). IsChain nodes i (end_at (set ends from (unlinked nodes (end_at ends from))) i).depth (end_at (set ends from (unlinked nodes (end_at ends from))) i).head × Lacks
+        nodes (end_at (set ends from (unlinked nodes (end_at ends from))) i).depth (end_at (set ends from (unlinked nodes (end_at ends from))) i).head (end_at ends from).head) (sym s)
+        (subst (λ (z : End). IsChain nodes from z.depth z.head × Lacks nodes z.depth z.head (end_at ends from).head) (sym (get_or-set_same ends from (unlinked nodes (end_at ends from)) no_nodes f)) (
+          first_of_list.1,
+          lacks_deeper nodes from ((end_at ends from).depth - 1) (node_at nodes (end_at ends from).head).next (end_at ends from).head first_of_list.1
+              (omega (arith, first_of_list.0.deep)),
+        ))
     | inr n ↦
         subst (λ (z : End). IsChain nodes k z.depth z.head × Lacks nodes z.depth z.head (end_at ends from).head) (sym (get_or-set_other ends from k (unlinked nodes (end_at ends from)) no_nodes n))
         (let long : length (set ends from (unlinked nodes (end_at ends from))) ≡ length ends = length-set ends from (unlinked nodes (end_at ends from)) in
@@ -99,7 +113,8 @@ module _ (nodes : List Node) (ends : List End) (from : ℕ) (f : from < length e
 
 -- ---- from one list to another
 
-module _ (nodes : List Node) (ends : List End) (from to : ℕ) (kept : AreChained nodes ends) (f : from < length ends) (t : to < length ends) (apart : from ≢ to) (some : 0 < (end_at ends from).depth) where
+module _ (nodes : List Node) (ends : List End) (from to : ℕ) (kept : AreChained nodes ends) (f : from < length ends) (t : to < length ends) (apart : from ≢ to)
+    (some : 0 < (end_at ends from).depth) where
   cut_to : end_at (set ends from (unlinked nodes (end_at ends from))) to ≡ end_at ends to
   cut_to = get_or-set_other ends from to (unlinked nodes (end_at ends from)) no_nodes (λ s. apart (sym s))
 
@@ -112,20 +127,27 @@ module _ (nodes : List Node) (ends : List End) (from to : ℕ) (kept : AreChaine
   -- there is room for one node more in the list
   pub shift_room : (end_at ends to).depth + 1 < 4294967296
   shift_room =
-      let s : (end_at (set ends from (unlinked nodes (end_at ends from))) to).depth ≤ sum_by depth_of (set ends from (unlinked nodes (end_at ends from))) = get_or-le-sum_by depth_of (set ends from (unlinked nodes (end_at ends from))) to no_nodes (omega (arith, t, cut_long)) in
+      let s : (end_at (set ends from (unlinked nodes (end_at ends from))) to).depth ≤ sum_by depth_of (set ends from (unlinked nodes (end_at ends from))) =
+      get_or-le-sum_by depth_of (set ends from (unlinked nodes (end_at ends from))) to no_nodes (omega (arith, t, cut_long)) in
       let d : (end_at (set ends from (unlinked nodes (end_at ends from))) to).depth ≡ (end_at ends to).depth = ap (λ (z : End). z.depth) cut_to in
       omega (arith, s, d, cut_sum, kept.few)
 
   x_in : (end_at ends from).head < length nodes
   x_in = first_within nodes from (end_at ends from) some (kept.lists from f)
 
-  chains : (n : Node) (k : ℕ) → k < length (set ends from (unlinked nodes (end_at ends from))) → IsChain nodes k (end_at (set ends from (unlinked nodes (end_at ends from))) k).depth (end_at (set ends from (unlinked nodes (end_at ends from))) k).head × Agree nodes (set nodes (end_at ends from).head n) (end_at (set ends from (unlinked nodes (end_at ends from))) k).depth (end_at (set ends from (unlinked nodes (end_at ends from))) k).head
+  chains : (n : Node) (k : ℕ) → k < length (set ends from (unlinked nodes (end_at ends from)))
+      → IsChain nodes k (end_at (set ends from (unlinked nodes (end_at ends from))) k).depth (end_at (set ends from (unlinked nodes (end_at ends from))) k).head × Agree nodes
+      (set nodes (end_at ends from).head n) (end_at (set ends from (unlinked nodes (end_at ends from))) k).depth (end_at (set ends from (unlinked nodes (end_at ends from))) k).head
   chains n k h =
-      let both = detached_chains nodes ends from f some kept.lists k h in
-      (both.0, agree_set nodes (end_at ends from).head n (end_at (set ends from (unlinked nodes (end_at ends from))) k).depth (end_at (set ends from (unlinked nodes (end_at ends from))) k).head both.1)
+      let both = detached_chains nodes ends from f some kept.lists k h in (
+        both.0,
+        agree_set nodes (end_at ends from).head n (end_at (set ends from (unlinked nodes (end_at ends from))) k).depth
+            (end_at (set ends from (unlinked nodes (end_at ends from))) k).head both.1,
+      )
 
   -- each node still stands in one list
-  pub shift_kept : AreChained (set nodes (end_at ends from).head (linked nodes (end_at ends to) to (node_at nodes (end_at ends from).head).entry)) (set (set ends from (unlinked nodes (end_at ends from))) to (longer (end_at ends from).head (end_at ends to)))
+  pub shift_kept : AreChained (set nodes (end_at ends from).head (linked nodes (end_at ends to) to (node_at nodes (end_at ends from).head).entry))
+      (set (set ends from (unlinked nodes (end_at ends from))) to (longer (end_at ends from).head (end_at ends to)))
   shift_kept =
       let n : Node = linked nodes (end_at ends to) to (node_at nodes (end_at ends from).head).entry in
       let long : length (set nodes (end_at ends from).head n) ≡ length nodes = length-set nodes (end_at ends from).head n in
@@ -133,21 +155,28 @@ module _ (nodes : List Node) (ends : List End) (from to : ℕ) (kept : AreChaine
       let s = sum_by-set depth_of (set ends from (unlinked nodes (end_at ends from))) to (longer (end_at ends from).head (end_at ends to)) no_nodes t_in in
       let d : (end_at (set ends from (unlinked nodes (end_at ends from))) to).depth ≡ (end_at ends to).depth = ap (λ (z : End). z.depth) cut_to in
       record {
-        lists = attached_chains nodes (set nodes (end_at ends from).head n) (set ends from (unlinked nodes (end_at ends from))) to (end_at ends from).head (node_at nodes (end_at ends from).head).entry (end_at ends to) cut_to (omega (arith, long)) (omega (arith, x_in, long)) t_in (get_or-set_same nodes (end_at ends from).head n blank_node x_in) (chains n);
+        lists = attached_chains nodes (set nodes (end_at ends from).head n) (set ends from (unlinked nodes (end_at ends from))) to (end_at ends from).head
+            (node_at nodes (end_at ends from).head).entry (end_at ends to) cut_to (omega (arith, long)) (omega (arith, x_in, long)) t_in
+            (get_or-set_same nodes (end_at ends from).head n blank_node x_in) (chains n);
         whole = omega (arith, s, d, cut_sum, long);
         few = omega (arith, long, kept.few);
         many = omega (arith, length-set (set ends from (unlinked nodes (end_at ends from))) to (longer (end_at ends from).head (end_at ends to)), cut_long, kept.many);
       }
 
   -- the lists then
-  pub shift_lists : IsShifted from to (lists_of nodes ends) (lists_of (set nodes (end_at ends from).head (linked nodes (end_at ends to) to (node_at nodes (end_at ends from).head).entry)) (set (set ends from (unlinked nodes (end_at ends from))) to (longer (end_at ends from).head (end_at ends to))))
+  pub shift_lists : IsShifted from to (lists_of nodes ends) (lists_of (set nodes (end_at ends from).head (linked nodes (end_at ends to) to (node_at nodes (end_at ends from).head).entry))
+      (set (set ends from (unlinked nodes (end_at ends from))) to (longer (end_at ends from).head (end_at ends to))))
   shift_lists =
       let n : Node = linked nodes (end_at ends to) to (node_at nodes (end_at ends from).head).entry in
       let long : length (set nodes (end_at ends from).head n) ≡ length nodes = length-set nodes (end_at ends from).head n in
       let t_in : to < length (set ends from (unlinked nodes (end_at ends from))) = omega (arith, t, cut_long) in
-      let whole : list_at (lists_of nodes ends) from ≡ (node_at nodes (end_at ends from).head).entry ∷ entries_of nodes (unlinked nodes (end_at ends from)) = list_told nodes ends from ∙ rest_told nodes (end_at ends from) some in
-      let same : list_at (lists_of nodes (set ends from (unlinked nodes (end_at ends from)))) to ≡ list_at (lists_of nodes ends) to = list_told nodes (set ends from (unlinked nodes (end_at ends from))) to ∙ ap (λ (z : End). entries_of nodes z) cut_to ∙ sym (list_told nodes ends to) in
-      attached_lists nodes (set nodes (end_at ends from).head n) (set ends from (unlinked nodes (end_at ends from))) to (end_at ends from).head (node_at nodes (end_at ends from).head).entry (end_at ends to) cut_to (omega (arith, long)) (omega (arith, x_in, long)) t_in (get_or-set_same nodes (end_at ends from).head n blank_node x_in) (chains n)
-      ∙ ap (λ (ls : List (List Entry)). set ls to ((node_at nodes (end_at ends from).head).entry ∷ list_at (lists_of nodes (set ends from (unlinked nodes (end_at ends from)))) to)) (detached_lists nodes ends from f some kept.lists)
+      let whole : list_at (lists_of nodes ends) from ≡ (node_at nodes (end_at ends from).head).entry ∷ entries_of nodes (unlinked nodes (end_at ends from)) =
+      list_told nodes ends from ∙ rest_told nodes (end_at ends from) some in
+      let same : list_at (lists_of nodes (set ends from (unlinked nodes (end_at ends from)))) to ≡ list_at (lists_of nodes ends) to =
+      list_told nodes (set ends from (unlinked nodes (end_at ends from))) to ∙ ap (λ (z : End). entries_of nodes z) cut_to ∙ sym (list_told nodes ends to) in
+      attached_lists nodes (set nodes (end_at ends from).head n) (set ends from (unlinked nodes (end_at ends from))) to (end_at ends from).head (node_at nodes (end_at ends from).head).entry
+      (end_at ends to) cut_to (omega (arith, long)) (omega (arith, x_in, long)) t_in (get_or-set_same nodes (end_at ends from).head n blank_node x_in) (chains n)
+      ∙ ap (λ (ls : List (List Entry)). set ls to ((node_at nodes (end_at ends from).head).entry ∷ list_at (lists_of nodes (set ends from (unlinked nodes (end_at ends from)))) to))
+      (detached_lists nodes ends from f some kept.lists)
       ∙ ap (λ (es : List Entry). set (set (lists_of nodes ends) from (rest_of (list_at (lists_of nodes ends) from))) to ((node_at nodes (end_at ends from).head).entry ∷ es)) same
       ∙ ap (λ (es : List Entry). set (set (lists_of nodes ends) from (rest_of (list_at (lists_of nodes ends) from))) to (front_before es (list_at (lists_of nodes ends) to))) (sym whole)

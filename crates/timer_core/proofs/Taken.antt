@@ -39,7 +39,8 @@ last_if false false = refl
 lt_is : (x y : Reverse Entry) → is_lt (by_entry x y) ≡ is_after x.0 y.0
 lt_is x y =
     then_is y.0.moment x.0.moment (ordering_then (nat_cmp y.0.rank x.0.rank) (ordering_then (nat_cmp y.0.order x.0.order) (ordering_then (nat_cmp y.0.id x.0.id) (nat_cmp y.0.code x.0.code))))
-    ∙ ap (λ (b : Bool). ltb y.0.moment x.0.moment || (y.0.moment == x.0.moment && b)) (then_is y.0.rank x.0.rank (ordering_then (nat_cmp y.0.order x.0.order) (ordering_then (nat_cmp y.0.id x.0.id) (nat_cmp y.0.code x.0.code)))
+    ∙ ap (λ (b : Bool). ltb y.0.moment x.0.moment || (y.0.moment == x.0.moment && b))
+    (then_is y.0.rank x.0.rank (ordering_then (nat_cmp y.0.order x.0.order) (ordering_then (nat_cmp y.0.id x.0.id) (nat_cmp y.0.code x.0.code)))
     ∙ ap (λ (b : Bool). ltb y.0.rank x.0.rank || (y.0.rank == x.0.rank && b)) (then_is y.0.order x.0.order (ordering_then (nat_cmp y.0.id x.0.id) (nat_cmp y.0.code x.0.code))
     ∙ ap (λ (b : Bool). ltb y.0.order x.0.order || (y.0.order == x.0.order && b)) (then_is y.0.id x.0.id (nat_cmp y.0.code x.0.code)
     ∙ ap (λ (b : Bool). ltb y.0.id x.0.id || (y.0.id == x.0.id && b)) (last_if (ltb y.0.code x.0.code) (y.0.code == x.0.code)))))
@@ -48,10 +49,12 @@ lt_is x y =
 pub top_is_least : (x : Reverse Entry) (ys : List (Reverse Entry)) → IsUpperBound by_entry x ys → AllByRecursion (λ (y : Reverse Entry). is_after x.0 y.0 ≡ false) ys
 top_is_least x ys h = all_weaker (λ (y : Reverse Entry). is_lt (by_entry x y) ≡ false) (λ (y : Reverse Entry). is_after x.0 y.0 ≡ false) (λ y g. sym (lt_is x y) ∙ g) ys h
 
-no_lower : (x : Reverse Entry) (ys : List (Reverse Entry)) → AllByRecursion (λ (y : Reverse Entry). is_after x.0 y.0 ≡ false) ys → AllByRecursion (λ (e : Entry). x.0.moment ≤ e.moment) (heap_entries ys)
+no_lower : (x : Reverse Entry) (ys : List (Reverse Entry)) → AllByRecursion (λ (y : Reverse Entry). is_after x.0 y.0 ≡ false) ys
+    → AllByRecursion (λ (e : Entry). x.0.moment ≤ e.moment) (heap_entries ys)
 no_lower x ys h =
     all_entries (λ (e : Entry). x.0.moment ≤ e.moment) ys
-    (all_weaker (λ (y : Reverse Entry). is_after x.0 y.0 ≡ false) (λ (y : Reverse Entry). x.0.moment ≤ y.0.moment) (λ y g. past_moment x.0.moment x.0.rank x.0.order x.0.id x.0.code y.0.moment y.0.rank y.0.order y.0.id y.0.code g) ys h)
+    (all_weaker (λ (y : Reverse Entry). is_after x.0 y.0 ≡ false) (λ (y : Reverse Entry). x.0.moment ≤ y.0.moment)
+    (λ y g. past_moment x.0.moment x.0.rank x.0.order x.0.id x.0.code y.0.moment y.0.rank y.0.order y.0.id y.0.code g) ys h)
 
 -- so it has the first moment
 pub top_first : (x : Reverse Entry) (ys : List (Reverse Entry)) → 0 < length ys → x ≡ get_or ys 0 x → IsUpperBound by_entry x ys → IsFirstMoment (heap_entries ys) x.0.moment
@@ -70,7 +73,8 @@ first_reached base m (r ∷ rs) h f = let a = f.least.0 in let b = h.0 in omega 
 pub heap_first : (base m : ℕ) (heap : List (Reverse Entry)) (lists : List (List Entry)) → IsSettled base heap lists → IsFirstMoment (heap_entries heap) m → IsFirstMoment (waiting_of heap lists) m
 heap_first base m heap lists s f = record {
   least = all_append (λ (e : Entry). m ≤ e.moment) (heap_entries heap) (all_of (used_lists lists)) f.least
-      (all_weaker (λ (e : Entry). m < e.moment) (λ (e : Entry). m ≤ e.moment) (λ e h. omega (arith, h)) (all_of (used_lists lists)) (lists_later base m heap lists (first_reached base m heap s.reached f) s));
+      (all_weaker (λ (e : Entry). m < e.moment) (λ (e : Entry). m ≤ e.moment) (λ e h. omega (arith, h)) (all_of (used_lists lists))
+      (lists_later base m heap lists (first_reached base m heap s.reached f) s));
   there = λ l. f.there (all_left (λ (e : Entry). m < e.moment) (heap_entries heap) (all_of (used_lists lists)) l);
 }
 
@@ -90,7 +94,8 @@ module _ (base : ℕ) (heap new : List (Reverse Entry)) (lists : List (List Entr
 
   pub popped_due : (now m : ℕ) → m ≤ now → IsFirstMoment (heap_entries heap) m → IsUpperBound by_entry x heap → x.0.moment ≤ now
   popped_due now m l f h = elim (cases_lt now x.0.moment) [
-    | inl later ↦ absurd (f.there (all_weaker (λ (e : Entry). x.0.moment ≤ e.moment) (λ (e : Entry). m < e.moment) (λ e g. omega (arith, g, later, l)) (heap_entries heap) (no_lower x heap (top_is_least x heap h))))
+    | inl later ↦ absurd
+        (f.there (all_weaker (λ (e : Entry). x.0.moment ≤ e.moment) (λ (e : Entry). m < e.moment) (λ e g. omega (arith, g, later, l)) (heap_entries heap) (no_lower x heap (top_is_least x heap h))))
     | inr due ↦ due
   ]
 
@@ -99,7 +104,8 @@ module _ (base : ℕ) (heap new : List (Reverse Entry)) (lists : List (List Entr
       let there : x.0.moment ≤ base = (all_permuted (λ (r : Reverse Entry). r.0.moment ≤ base) heap (x ∷ new) p s.reached).0 in
       all_append (λ (f : Entry). is_after x.0 f ≡ false) (heap_entries new) (all_of (used_lists lists))
       (all_entries (λ (f : Entry). is_after x.0 f ≡ false) new (top_is_least x new h))
-      (all_weaker (λ (f : Entry). x.0.moment < f.moment) (λ (f : Entry). is_after x.0 f ≡ false) (λ f l. not_past x.0.moment x.0.rank x.0.order x.0.id x.0.code f.moment f.rank f.order f.id f.code l) (all_of (used_lists lists)) (lists_later base x.0.moment heap lists there s))
+      (all_weaker (λ (f : Entry). x.0.moment < f.moment) (λ (f : Entry). is_after x.0 f ≡ false)
+      (λ f l. not_past x.0.moment x.0.rank x.0.order x.0.id x.0.code f.moment f.rank f.order f.id f.code l) (all_of (used_lists lists)) (lists_later base x.0.moment heap lists there s))
 
 -- ---- the marks
 
@@ -152,7 +158,12 @@ sorted_marks (e ∷ es) h = (first_marks e es h.0, sorted_marks es h.1)
 first_at : (m : ℕ) (xs : List Entry) (zs : List Entry) → AreAscending zs → AllByRecursion (λ (e : Entry). m ≤ e.moment) zs → (AreLater m zs → ⊥) → Some m ≡ first_moment (map mark_of zs)
 first_at m xs [] a l t = absurd (t tt)
 first_at m xs (e ∷ es) a l t = elim (cases_lt m e.moment) [
-  | inl later ↦ absurd (t (later, all_weaker (λ f. is_after e f ≡ false) (λ (f : Entry). m < f.moment) (λ f h. let g = past_moment e.moment e.rank e.order e.id e.code f.moment f.rank f.order f.id f.code h in omega (arith, g, later)) es a.0))
+  | inl later ↦ absurd
+      (t (
+        later,
+        all_weaker (λ f. is_after e f ≡ false) (λ (f : Entry). m < f.moment)
+            (λ f h. let g = past_moment e.moment e.rank e.order e.id e.code f.moment f.rank f.order f.id f.code h in omega (arith, g, later)) es a.0,
+      ))
   | inr low ↦ let b = l.0 in let same : m ≡ e.moment = omega (arith, b, low) in ap (λ n. Some n) same
 ]
 

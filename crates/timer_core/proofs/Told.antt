@@ -6,7 +6,8 @@ use Rattle.std.proofs.lemmas.List.Sums.{sum_by-set, get_or-le-sum_by}
 use Rattle.timer_core.specs.declared.entry.Entry.{Entry}
 use Rattle.timer_core.specs.declared.links.Node.{Node}
 use Rattle.timer_core.specs.declared.links.End.{End}
-use Rattle.timer_core.specs.Chains.{blank_node, no_nodes, node_at, end_at, entries_from, entries_of, lists_of, list_at, least_of, rest_of, front_before, IsShifted, least_at, linked, unlinked, IsChain, depth_of, AreChained}
+use Rattle.timer_core.specs.Chains.{blank_node, no_nodes, node_at, end_at, entries_from, entries_of, lists_of, list_at, least_of, rest_of, front_before, IsShifted, least_at, linked}
+use Rattle.timer_core.specs.Chains.{unlinked, IsChain, depth_of, AreChained}
 use Rattle.timer_core.proofs.Chained.{Agree, agree_set, agree_push, least_told, list_told}
 use Rattle.timer_core.proofs.Shifted.{longer, attached_lists, attached_chains, detached_lists, detached_chains, first_within, rest_told, shift_room, shift_kept, shift_lists}
 
@@ -50,38 +51,51 @@ module _ (nodes : List Node) (ends : List End) (ls : List (List Entry)) (v : lis
   pub depth_room : AreChained nodes ends → k < length ends → (end_at ends k).depth ≤ length nodes
   depth_room kept f = let s = get_or-le-sum_by depth_of ends k no_nodes f in omega (arith, s, kept.whole)
 
-  pushed_pairs : AreChained nodes ends → (n : Node) (j : ℕ) → j < length ends → IsChain nodes j (end_at ends j).depth (end_at ends j).head × Agree nodes (nodes ++ n ∷ []) (end_at ends j).depth (end_at ends j).head
+  pushed_pairs : AreChained nodes ends → (n : Node) (j : ℕ) → j < length ends
+      → IsChain nodes j (end_at ends j).depth (end_at ends j).head × Agree nodes (nodes ++ n ∷ []) (end_at ends j).depth (end_at ends j).head
   pushed_pairs kept n j h = (kept.lists j h, agree_push nodes n j (end_at ends j).depth (end_at ends j).head (kept.lists j h))
 
-  pub push_kept : (e : Entry) → AreChained nodes ends → k < length ends → length nodes + 1 < 4294967296 → AreChained (nodes ++ linked nodes (end_at ends k) k e ∷ []) (set ends k (longer (length nodes) (end_at ends k)))
+  pub push_kept : (e : Entry) → AreChained nodes ends → k < length ends → length nodes + 1 < 4294967296
+      → AreChained (nodes ++ linked nodes (end_at ends k) k e ∷ []) (set ends k (longer (length nodes) (end_at ends k)))
   push_kept e kept f few =
       let n : Node = linked nodes (end_at ends k) k e in
       let long : length (nodes ++ n ∷ []) ≡ length nodes + 1 = length_push nodes n in
       let s = sum_by-set depth_of ends k (longer (length nodes) (end_at ends k)) no_nodes f in
       record {
-        lists = attached_chains nodes (nodes ++ n ∷ []) ends k (length nodes) e (end_at ends k) refl (omega (arith, long)) (omega (arith, long)) f (get_or_push nodes n blank_node (length nodes) refl) (pushed_pairs kept n);
+        lists = attached_chains nodes (nodes ++ n ∷ []) ends k (length nodes) e (end_at ends k) refl (omega (arith, long)) (omega (arith, long)) f
+            (get_or_push nodes n blank_node (length nodes) refl) (pushed_pairs kept n);
         whole = omega (arith, s, long, kept.whole);
         few = omega (arith, long, few);
         many = omega (arith, length-set ends k (longer (length nodes) (end_at ends k)), kept.many);
       }
 
-  pub push_lists : (e : Entry) → AreChained nodes ends → k < length ends → lists_of (nodes ++ linked nodes (end_at ends k) k e ∷ []) (set ends k (longer (length nodes) (end_at ends k))) ≡ set ls k (e ∷ list_at ls k)
+  pub push_lists : (e : Entry) → AreChained nodes ends → k < length ends
+      → lists_of (nodes ++ linked nodes (end_at ends k) k e ∷ []) (set ends k (longer (length nodes) (end_at ends k))) ≡ set ls k (e ∷ list_at ls k)
   push_lists e kept f =
       let n : Node = linked nodes (end_at ends k) k e in
       let long : length (nodes ++ n ∷ []) ≡ length nodes + 1 = length_push nodes n in
-      attached_lists nodes (nodes ++ n ∷ []) ends k (length nodes) e (end_at ends k) refl (omega (arith, long)) (omega (arith, long)) f (get_or_push nodes n blank_node (length nodes) refl) (pushed_pairs kept n)
+      attached_lists nodes (nodes ++ n ∷ []) ends k (length nodes) e (end_at ends k) refl (omega (arith, long)) (omega (arith, long)) f (get_or_push nodes n blank_node (length nodes) refl)
+      (pushed_pairs kept n)
       ∙ ap (λ (zs : List (List Entry)). set zs k (e ∷ list_at zs k)) v
 
-module _ (nodes : List Node) (ends : List End) (ls : List (List Entry)) (v : lists_of nodes ends ≡ ls) (k : ℕ) (kept : AreChained nodes ends) (f : k < length ends) (some : 0 < (end_at ends k).depth) (e : Entry) where
+module _ (nodes : List Node) (ends : List End) (ls : List (List Entry)) (v : lists_of nodes ends ≡ ls) (k : ℕ) (kept : AreChained nodes ends) (f : k < length ends)
+    (some : 0 < (end_at ends k).depth) (e : Entry) where
   same_ends : set (set ends k (unlinked nodes (end_at ends k))) k (longer (end_at ends k).head (unlinked nodes (end_at ends k))) ≡ ends
-  same_ends = set-set ends k (unlinked nodes (end_at ends k)) (longer (end_at ends k).head (unlinked nodes (end_at ends k))) ∙ ap (λ z. set ends k z) (longer_unlinked nodes (end_at ends k) some) ∙ set-get_or ends k no_nodes
+  same_ends =
+      set-set ends k (unlinked nodes (end_at ends k)) (longer (end_at ends k).head (unlinked nodes (end_at ends k))) ∙ ap (λ z. set ends k z) (longer_unlinked nodes (end_at ends k) some)
+      ∙ set-get_or ends k no_nodes
 
   pub next_within : 0 < (end_at ends k).depth - 1 → (node_at nodes (end_at ends k).head).next < length nodes
   next_within h =
-      let there : IsChain nodes k (unlinked nodes (end_at ends k)).depth (unlinked nodes (end_at ends k)).head = subst (λ (z : End). IsChain nodes k z.depth z.head) (get_or-set_same ends k (unlinked nodes (end_at ends k)) no_nodes f) (detached_chains nodes ends k f some kept.lists k (let long : length (set ends k (unlinked nodes (end_at ends k))) ≡ length ends = length-set ends k (unlinked nodes (end_at ends k)) in omega (arith, f, long))).0 in
+      let there : IsChain nodes k (unlinked nodes (end_at ends k)).depth (unlinked nodes (end_at ends k)).head =
+      subst (λ (z : End). IsChain nodes k z.depth z.head) (get_or-set_same ends k (unlinked nodes (end_at ends k)) no_nodes f)
+      (detached_chains nodes ends k f some kept.lists k
+      (let long : length (set ends k (unlinked nodes (end_at ends k))) ≡ length ends = length-set ends k (unlinked nodes (end_at ends k)) in omega (arith, f, long))).0 in
       first_within nodes k (unlinked nodes (end_at ends k)) h there
 
-  put_pairs : (n : Node) (j : ℕ) → j < length (set ends k (unlinked nodes (end_at ends k))) → IsChain nodes j (end_at (set ends k (unlinked nodes (end_at ends k))) j).depth (end_at (set ends k (unlinked nodes (end_at ends k))) j).head × Agree nodes (set nodes (end_at ends k).head n) (end_at (set ends k (unlinked nodes (end_at ends k))) j).depth (end_at (set ends k (unlinked nodes (end_at ends k))) j).head
+  put_pairs : (n : Node) (j : ℕ) → j < length (set ends k (unlinked nodes (end_at ends k)))
+      → IsChain nodes j (end_at (set ends k (unlinked nodes (end_at ends k))) j).depth (end_at (set ends k (unlinked nodes (end_at ends k))) j).head × Agree nodes
+      (set nodes (end_at ends k).head n) (end_at (set ends k (unlinked nodes (end_at ends k))) j).depth (end_at (set ends k (unlinked nodes (end_at ends k))) j).head
   put_pairs n j h =
       let both = detached_chains nodes ends k f some kept.lists j h in
       (both.0, agree_set nodes (end_at ends k).head n (end_at (set ends k (unlinked nodes (end_at ends k))) j).depth (end_at (set ends k (unlinked nodes (end_at ends k))) j).head both.1)
@@ -97,7 +111,10 @@ module _ (nodes : List Node) (ends : List End) (ls : List (List Entry)) (v : lis
       let n : Node = linked nodes (unlinked nodes (end_at ends k)) k e in
       let long : length (set nodes (end_at ends k).head n) ≡ length nodes = length-set nodes (end_at ends k).head n in
       record {
-        lists = subst (λ (zs : List End). (j : ℕ) → j < length zs → IsChain (set nodes (end_at ends k).head n) j (end_at zs j).depth (end_at zs j).head) same_ends (attached_chains nodes (set nodes (end_at ends k).head n) (set ends k (unlinked nodes (end_at ends k))) k (end_at ends k).head e (unlinked nodes (end_at ends k)) (get_or-set_same ends k (unlinked nodes (end_at ends k)) no_nodes f) (omega (arith, long)) (omega (arith, x_in, long)) cut_in (get_or-set_same nodes (end_at ends k).head n blank_node x_in) (put_pairs n));
+        lists = subst (λ (zs : List End). (j : ℕ) → j < length zs → IsChain (set nodes (end_at ends k).head n) j (end_at zs j).depth (end_at zs j).head) same_ends
+            (attached_chains nodes (set nodes (end_at ends k).head n) (set ends k (unlinked nodes (end_at ends k))) k (end_at ends k).head e (unlinked nodes (end_at ends k))
+            (get_or-set_same ends k (unlinked nodes (end_at ends k)) no_nodes f) (omega (arith, long)) (omega (arith, x_in, long)) cut_in
+            (get_or-set_same nodes (end_at ends k).head n blank_node x_in) (put_pairs n));
         whole = kept.whole ∙ sym long;
         few = omega (arith, long, kept.few);
         many = kept.many;
@@ -107,31 +124,41 @@ module _ (nodes : List Node) (ends : List End) (ls : List (List Entry)) (v : lis
   put_lists =
       let n : Node = linked nodes (unlinked nodes (end_at ends k)) k e in
       let long : length (set nodes (end_at ends k).head n) ≡ length nodes = length-set nodes (end_at ends k).head n in
-      let cut : lists_of nodes (set ends k (unlinked nodes (end_at ends k))) ≡ set ls k (rest_of (list_at ls k)) = detached_lists nodes ends k f some kept.lists ∙ ap (λ (zs : List (List Entry)). set zs k (rest_of (list_at zs k))) v in
+      let cut : lists_of nodes (set ends k (unlinked nodes (end_at ends k))) ≡ set ls k (rest_of (list_at ls k)) =
+      detached_lists nodes ends k f some kept.lists ∙ ap (λ (zs : List (List Entry)). set zs k (rest_of (list_at zs k))) v in
       let in_ls : k < length ls = omega (arith, counted nodes ends ls v, f) in
       ap (λ (zs : List End). lists_of (set nodes (end_at ends k).head n) zs) (sym same_ends)
-      ∙ attached_lists nodes (set nodes (end_at ends k).head n) (set ends k (unlinked nodes (end_at ends k))) k (end_at ends k).head e (unlinked nodes (end_at ends k)) (get_or-set_same ends k (unlinked nodes (end_at ends k)) no_nodes f) (omega (arith, long)) (omega (arith, x_in, long)) cut_in (get_or-set_same nodes (end_at ends k).head n blank_node x_in) (put_pairs n)
+      ∙ attached_lists nodes (set nodes (end_at ends k).head n) (set ends k (unlinked nodes (end_at ends k))) k (end_at ends k).head e (unlinked nodes (end_at ends k))
+      (get_or-set_same ends k (unlinked nodes (end_at ends k)) no_nodes f) (omega (arith, long)) (omega (arith, x_in, long)) cut_in
+      (get_or-set_same nodes (end_at ends k).head n blank_node x_in) (put_pairs n)
       ∙ ap (λ (zs : List (List Entry)). set zs k (e ∷ list_at zs k)) cut
       ∙ set-set ls k (rest_of (list_at ls k)) (e ∷ list_at (set ls k (rest_of (list_at ls k))) k)
       ∙ ap (λ (es : List Entry). set ls k (e ∷ es)) (get_or-set_same ls k (rest_of (list_at ls k)) [] in_ls)
 
-module _ (nodes : List Node) (ends : List End) (ls : List (List Entry)) (v : lists_of nodes ends ≡ ls) (from to : ℕ) (kept : AreChained nodes ends) (f : from < length ends) (t : to < length ends) (apart : from ≢ to) (some : list_at ls from ≢ []) where
-  pub shifted_kept : AreChained (set nodes (end_at ends from).head (linked nodes (end_at ends to) to (node_at nodes (end_at ends from).head).entry)) (set (set ends from (unlinked nodes (end_at ends from))) to (longer (end_at ends from).head (end_at ends to)))
+module _ (nodes : List Node) (ends : List End) (ls : List (List Entry)) (v : lists_of nodes ends ≡ ls) (from to : ℕ) (kept : AreChained nodes ends) (f : from < length ends)
+    (t : to < length ends) (apart : from ≢ to) (some : list_at ls from ≢ []) where
+  pub shifted_kept : AreChained (set nodes (end_at ends from).head (linked nodes (end_at ends to) to (node_at nodes (end_at ends from).head).entry))
+      (set (set ends from (unlinked nodes (end_at ends from))) to (longer (end_at ends from).head (end_at ends to)))
   shifted_kept = shift_kept nodes ends from to kept f t apart (some_depth nodes ends ls v from some)
 
   pub shifted_room : (end_at ends to).depth + 1 < 4294967296
   shifted_room = shift_room nodes ends from to kept f t apart (some_depth nodes ends ls v from some)
 
-  pub shifted_lists : IsShifted from to ls (lists_of (set nodes (end_at ends from).head (linked nodes (end_at ends to) to (node_at nodes (end_at ends from).head).entry)) (set (set ends from (unlinked nodes (end_at ends from))) to (longer (end_at ends from).head (end_at ends to))))
+  pub shifted_lists : IsShifted from to ls (lists_of (set nodes (end_at ends from).head (linked nodes (end_at ends to) to (node_at nodes (end_at ends from).head).entry))
+      (set (set ends from (unlinked nodes (end_at ends from))) to (longer (end_at ends from).head (end_at ends to))))
   shifted_lists =
-      subst (λ (zs : List (List Entry)). IsShifted from to zs (lists_of (set nodes (end_at ends from).head (linked nodes (end_at ends to) to (node_at nodes (end_at ends from).head).entry)) (set (set ends from (unlinked nodes (end_at ends from))) to (longer (end_at ends from).head (end_at ends to))))) v
+      subst (λ (zs : List (List Entry)). IsShifted from to zs
+      (lists_of (set nodes (end_at ends from).head (linked nodes (end_at ends to) to (node_at nodes (end_at ends from).head).entry))
+      (set (set ends from (unlinked nodes (end_at ends from))) to (longer (end_at ends from).head (end_at ends to))))) v
       (shift_lists nodes ends from to kept f t apart (some_depth nodes ends ls v from some))
 
 -- an entry in a node that was free
-pub insert_told : (list : ℕ) (e : Entry) (old mid new : List (List Entry)) → 0 < list → list < length old → IsShifted 0 list old mid → list_at old 0 ≢ [] → new ≡ set mid list (e ∷ rest_of (list_at mid list)) → new ≡ set (set old 0 (rest_of (list_at old 0))) list (e ∷ list_at old list)
+pub insert_told : (list : ℕ) (e : Entry) (old mid new : List (List Entry)) → 0 < list → list < length old → IsShifted 0 list old mid → list_at old 0 ≢ []
+    → new ≡ set mid list (e ∷ rest_of (list_at mid list)) → new ≡ set (set old 0 (rest_of (list_at old 0))) list (e ∷ list_at old list)
 insert_told list e old mid new u f is some n =
     let long : length (set old 0 (rest_of (list_at old 0))) ≡ length old = length-set old 0 (rest_of (list_at old 0)) in
-    let there : list_at mid list ≡ front_before (list_at old 0) (list_at old list) = ap (λ (ls : List (List Entry)). list_at ls list) is ∙ get_or-set_same (set old 0 (rest_of (list_at old 0))) list (front_before (list_at old 0) (list_at old list)) [] (omega (arith, f, long)) in
+    let there : list_at mid list ≡ front_before (list_at old 0) (list_at old list) =
+    ap (λ (ls : List (List Entry)). list_at ls list) is ∙ get_or-set_same (set old 0 (rest_of (list_at old 0))) list (front_before (list_at old 0) (list_at old list)) [] (omega (arith, f, long)) in
     n ∙ ap (λ (ls : List (List Entry)). set ls list (e ∷ rest_of (list_at mid list))) is
     ∙ set-set (set old 0 (rest_of (list_at old 0))) list (front_before (list_at old 0) (list_at old list)) (e ∷ rest_of (list_at mid list))
     ∙ ap (λ (es : List Entry). set (set old 0 (rest_of (list_at old 0))) list (e ∷ es)) (ap (λ (es : List Entry). rest_of es) there ∙ rest_front (list_at old 0) (list_at old list) some)

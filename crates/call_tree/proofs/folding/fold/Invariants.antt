@@ -11,7 +11,8 @@ abbrev pub invariant-loop-kid : goal.invariant-loop-kid
 invariant-loop-kid g l =
     let ends = with_last (ends_of (states_of l.kids)) l.at (option_map (λ e. e.now) l.end) in
     record {
-      merged : spec.fold_from g.G.Merger.answer (spec.parts_from l.kid-index (drop l.kid-index l.merges) (drop l.kid-index ends)) l.limit l.so_far l.failed ≡ spec.fold_parts g.G.Merger.answer (spec.parts_of l.merges ends) l.fails l.limit;
+      merged : spec.fold_from g.G.Merger.answer (spec.parts_from l.kid-index (drop l.kid-index l.merges) (drop l.kid-index ends)) l.limit l.so_far l.failed ≡ spec.fold_parts
+          g.G.Merger.answer (spec.parts_of l.merges ends) l.fails l.limit;
       open_ : l.failed < l.limit;
       index : l.index ≡ l.kid-index;
     }

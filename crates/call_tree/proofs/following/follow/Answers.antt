@@ -15,7 +15,9 @@ returns-clause-end g c n call moment =
     let sel = c.args.sel.now in
     let left = drop (suc c.args.at) sel.kids.items in
     let others : c.behind-others.result.now ≡ left = c.behind-others.ensures ∙ ap (λ (xs : List (State g.row.M.Denot g.row.G.Denot)). drop (suc c.args.at) xs) c.as_slice.ensures.value in
-    let next = followed-next kinds (option_map (λ e. e.now) c.args.end) c.in-Some.end.now c.any_left.result (states_of left) (start_waiting kinds n (states_of left) call sel.request moment) (started_tries kinds n (states_of left) call sel.request moment)
+    let next =
+    followed-next kinds (option_map (λ e. e.now) c.args.end) c.in-Some.end.now c.any_left.result (states_of left) (start_waiting kinds n (states_of left) call sel.request moment)
+    (started_tries kinds n (states_of left) call sel.request moment)
     (ap (option_map (λ e. e.now)) c.in-Some.is) (c.any_left.ensures ∙ ap (λ (ss : List (State g.row.M.Denot g.row.G.Denot)). is_left (states_of ss)) others) c.if-ends_node.ensures in
     c.in_ok-up.ensures.end
     ∙ ap (λ (ss : List (State g.row.M.Denot g.row.G.Denot)). (start_waiting kinds c.args.first (states_of ss) c.args.call c.list.result.now c.args.moment).end) others
@@ -29,7 +31,9 @@ returns-clause-started g c n call moment =
     let sel = c.args.sel.now in
     let left = drop (suc c.args.at) sel.kids.items in
     let others : c.behind-others.result.now ≡ left = c.behind-others.ensures ∙ ap (λ (xs : List (State g.row.M.Denot g.row.G.Denot)). drop (suc c.args.at) xs) c.as_slice.ensures.value in
-    let next = followed-next kinds (option_map (λ e. e.now) c.args.end) c.in-Some.end.now c.any_left.result (states_of left) (start_waiting kinds n (states_of left) call sel.request moment) (started_tries kinds n (states_of left) call sel.request moment)
+    let next =
+    followed-next kinds (option_map (λ e. e.now) c.args.end) c.in-Some.end.now c.any_left.result (states_of left) (start_waiting kinds n (states_of left) call sel.request moment)
+    (started_tries kinds n (states_of left) call sel.request moment)
     (ap (option_map (λ e. e.now)) c.in-Some.is) (c.any_left.ensures ∙ ap (λ (ss : List (State g.row.M.Denot g.row.G.Denot)). is_left (states_of ss)) others) c.if-ends_node.ensures in
     c.in_ok-up.ensures.started
     ∙ ap (λ (ss : List (State g.row.M.Denot g.row.G.Denot)). started_tries kinds c.args.first (states_of ss) c.args.call c.list.result.now c.args.moment) others

@@ -37,7 +37,9 @@ loop-kid-preserved g c =
     let copy : c.of-copy.result ≡ c.args.request.now = c.of-copy.ensures ∙ c.in_ok-from_slice.ensures.items in
     let run_is = ap (λ (r : List ℕ). start_at kinds c.loop-kid.number plan c.args.call r c.args.moment) copy in
     let tree = c.in_ok-tree.ensures.tree c.loop-kid.number c.args.call c.args.moment ∙ ap (λ (r : Run g.row.M.Denot g.row.G.Denot). r.state) run_is in
-    let turns = next-turn kinds kids c.loop-kid.kid-index c.kid-item.result plan c.loop-kid.number (c.loop-kid.left - 1) c.in_ok-tree.tree c.in_ok-goes.goes c.in_ok-goes.over (option_map (λ e. e.now) c.end.result) c.args.call c.args.request.now c.args.moment here c.kid-item.is waiting tree count c.end.ensures c.in_ok-goes.ensures in
+    let turns =
+    next-turn kinds kids c.loop-kid.kid-index c.kid-item.result plan c.loop-kid.number (c.loop-kid.left - 1) c.in_ok-tree.tree c.in_ok-goes.goes c.in_ok-goes.over
+    (option_map (λ e. e.now) c.end.result) c.args.call c.args.request.now c.args.moment here c.kid-item.is waiting tree count c.end.ensures c.in_ok-goes.ensures in
     let turn = turns.goes_on c.if-not-goes.false in
     let size = waiting-size kinds kids c.loop-kid.kid-index c.kid-item.result plan here c.kid-item.is waiting in
     let number = c.loop-kid.invariant.number in
@@ -48,9 +50,14 @@ loop-kid-preserved g c =
       number = omega (arith, number, more, size);
       count = count;
       end = ap (λ n. (later n).end) more ∙ sym turn.0 ∙ c.loop-kid.invariant.end;
-      started = ap (λ n. c.push.new.self.items ++ started_tries kinds (c.loop-kid.number + n) rest c.args.call c.args.request.now c.args.moment) more ∙ next-items kinds c.loop-kid.started.items c.push.new.self.items c.in_ok-tree.tree _ _ _ _ c.in_ok-push.ensures.items tree turn.3 c.loop-kid.invariant.started;
-      sends = ap (λ n. c.start.new.out.sends.items ++ (later n).sends) more ∙ next-sent c.loop-kid.out.sends.items c.start.new.out.sends.items _ _ _ _ _ c.in_ok-tree.ensures.grown.sent (ap (λ (r : Run g.row.M.Denot g.row.G.Denot). r.sends) run_is) turn.1 c.loop-kid.invariant.sends;
-      marks = ap (λ n. c.start.new.out.marks.items ++ (later n).marks) more ∙ next-sent c.loop-kid.out.marks.items c.start.new.out.marks.items _ _ _ _ _ c.in_ok-tree.ensures.grown.set (ap (λ (r : Run g.row.M.Denot g.row.G.Denot). r.marks) run_is) turn.2 c.loop-kid.invariant.marks;
+      started = ap (λ n. c.push.new.self.items ++ started_tries kinds (c.loop-kid.number + n) rest c.args.call c.args.request.now c.args.moment) more
+          ∙ next-items kinds c.loop-kid.started.items c.push.new.self.items c.in_ok-tree.tree _ _ _ _ c.in_ok-push.ensures.items tree turn.3 c.loop-kid.invariant.started;
+      sends = ap (λ n. c.start.new.out.sends.items ++ (later n).sends) more
+          ∙ next-sent c.loop-kid.out.sends.items c.start.new.out.sends.items _ _ _ _ _ c.in_ok-tree.ensures.grown.sent (ap (λ (r : Run g.row.M.Denot g.row.G.Denot). r.sends) run_is) turn.1
+          c.loop-kid.invariant.sends;
+      marks = ap (λ n. c.start.new.out.marks.items ++ (later n).marks) more
+          ∙ next-sent c.loop-kid.out.marks.items c.start.new.out.marks.items _ _ _ _ _ c.in_ok-tree.ensures.grown.set (ap (λ (r : Run g.row.M.Denot g.row.G.Denot). r.marks) run_is) turn.2
+          c.loop-kid.invariant.marks;
     }
 
 pub returns-then-not-goes-clause-end : goal.returns-then-not-goes-clause-end
@@ -65,7 +72,9 @@ returns-then-not-goes-clause-end g c =
     let copy : c.of-copy.result ≡ c.args.request.now = c.of-copy.ensures ∙ c.in_ok-from_slice.ensures.items in
     let run_is = ap (λ (r : List ℕ). start_at kinds c.loop-kid.number plan c.args.call r c.args.moment) copy in
     let tree = c.in_ok-tree.ensures.tree c.loop-kid.number c.args.call c.args.moment ∙ ap (λ (r : Run g.row.M.Denot g.row.G.Denot). r.state) run_is in
-    let turns = next-turn kinds kids c.loop-kid.kid-index c.kid-item.result plan c.loop-kid.number (c.loop-kid.left - 1) c.in_ok-tree.tree c.in_ok-goes.goes c.in_ok-goes.over (option_map (λ e. e.now) c.end.result) c.args.call c.args.request.now c.args.moment here c.kid-item.is waiting tree count c.end.ensures c.in_ok-goes.ensures in
+    let turns =
+    next-turn kinds kids c.loop-kid.kid-index c.kid-item.result plan c.loop-kid.number (c.loop-kid.left - 1) c.in_ok-tree.tree c.in_ok-goes.goes c.in_ok-goes.over
+    (option_map (λ e. e.now) c.end.result) c.args.call c.args.request.now c.args.moment here c.kid-item.is waiting tree count c.end.ensures c.in_ok-goes.ensures in
     sym (turns.stops c.if-not-goes.true).0 ∙ c.loop-kid.invariant.end
 
 pub returns-then-not-goes-clause-started : goal.returns-then-not-goes-clause-started
@@ -80,8 +89,11 @@ returns-then-not-goes-clause-started g c =
     let copy : c.of-copy.result ≡ c.args.request.now = c.of-copy.ensures ∙ c.in_ok-from_slice.ensures.items in
     let run_is = ap (λ (r : List ℕ). start_at kinds c.loop-kid.number plan c.args.call r c.args.moment) copy in
     let tree = c.in_ok-tree.ensures.tree c.loop-kid.number c.args.call c.args.moment ∙ ap (λ (r : Run g.row.M.Denot g.row.G.Denot). r.state) run_is in
-    let turns = next-turn kinds kids c.loop-kid.kid-index c.kid-item.result plan c.loop-kid.number (c.loop-kid.left - 1) c.in_ok-tree.tree c.in_ok-goes.goes c.in_ok-goes.over (option_map (λ e. e.now) c.end.result) c.args.call c.args.request.now c.args.moment here c.kid-item.is waiting tree count c.end.ensures c.in_ok-goes.ensures in
-    last-sent c.loop-kid.started.items c.push.new.self.items _ _ _ _ c.in_ok-push.ensures.items (ap (λ (s : State g.row.M.Denot g.row.G.Denot). s ∷ []) tree) (turns.stops c.if-not-goes.true).3 c.loop-kid.invariant.started
+    let turns =
+    next-turn kinds kids c.loop-kid.kid-index c.kid-item.result plan c.loop-kid.number (c.loop-kid.left - 1) c.in_ok-tree.tree c.in_ok-goes.goes c.in_ok-goes.over
+    (option_map (λ e. e.now) c.end.result) c.args.call c.args.request.now c.args.moment here c.kid-item.is waiting tree count c.end.ensures c.in_ok-goes.ensures in
+    last-sent c.loop-kid.started.items c.push.new.self.items _ _ _ _ c.in_ok-push.ensures.items (ap (λ (s : State g.row.M.Denot g.row.G.Denot). s ∷ []) tree)
+    (turns.stops c.if-not-goes.true).3 c.loop-kid.invariant.started
 
 pub returns-then-not-goes-clause-grown : goal.returns-then-not-goes-clause-grown
 returns-then-not-goes-clause-grown g c =
@@ -95,8 +107,12 @@ returns-then-not-goes-clause-grown g c =
     let copy : c.of-copy.result ≡ c.args.request.now = c.of-copy.ensures ∙ c.in_ok-from_slice.ensures.items in
     let run_is = ap (λ (r : List ℕ). start_at kinds c.loop-kid.number plan c.args.call r c.args.moment) copy in
     let tree = c.in_ok-tree.ensures.tree c.loop-kid.number c.args.call c.args.moment ∙ ap (λ (r : Run g.row.M.Denot g.row.G.Denot). r.state) run_is in
-    let turns = next-turn kinds kids c.loop-kid.kid-index c.kid-item.result plan c.loop-kid.number (c.loop-kid.left - 1) c.in_ok-tree.tree c.in_ok-goes.goes c.in_ok-goes.over (option_map (λ e. e.now) c.end.result) c.args.call c.args.request.now c.args.moment here c.kid-item.is waiting tree count c.end.ensures c.in_ok-goes.ensures in
+    let turns =
+    next-turn kinds kids c.loop-kid.kid-index c.kid-item.result plan c.loop-kid.number (c.loop-kid.left - 1) c.in_ok-tree.tree c.in_ok-goes.goes c.in_ok-goes.over
+    (option_map (λ e. e.now) c.end.result) c.args.call c.args.request.now c.args.moment here c.kid-item.is waiting tree count c.end.ensures c.in_ok-goes.ensures in
     record {
-      sent = last-sent c.loop-kid.out.sends.items c.start.new.out.sends.items _ _ _ _ c.in_ok-tree.ensures.grown.sent (ap (λ (r : Run g.row.M.Denot g.row.G.Denot). r.sends) run_is) (turns.stops c.if-not-goes.true).1 c.loop-kid.invariant.sends;
-      set = last-sent c.loop-kid.out.marks.items c.start.new.out.marks.items _ _ _ _ c.in_ok-tree.ensures.grown.set (ap (λ (r : Run g.row.M.Denot g.row.G.Denot). r.marks) run_is) (turns.stops c.if-not-goes.true).2 c.loop-kid.invariant.marks;
+      sent = last-sent c.loop-kid.out.sends.items c.start.new.out.sends.items _ _ _ _ c.in_ok-tree.ensures.grown.sent (ap (λ (r : Run g.row.M.Denot g.row.G.Denot). r.sends) run_is)
+          (turns.stops c.if-not-goes.true).1 c.loop-kid.invariant.sends;
+      set = last-sent c.loop-kid.out.marks.items c.start.new.out.marks.items _ _ _ _ c.in_ok-tree.ensures.grown.set (ap (λ (r : Run g.row.M.Denot g.row.G.Denot). r.marks) run_is)
+          (turns.stops c.if-not-goes.true).2 c.loop-kid.invariant.marks;
     }

@@ -16,7 +16,8 @@ invariant-loop-kid g l =
       number : l.number + size_of (states_of (drop l.kid-index l.kids)) ≡ l.first + size_of (states_of l.kids);
       count : l.left + l.kid-index ≡ length l.kids;
       end : rest.end ≡ all.end;
-      started : l.started.items ++ started_tries kinds l.number (states_of (drop l.kid-index l.kids)) l.call l.request l.moment ≡ started_tries kinds l.first (states_of l.kids) l.call l.request l.moment;
+      started : l.started.items ++ started_tries kinds l.number (states_of (drop l.kid-index l.kids)) l.call l.request l.moment ≡ started_tries kinds l.first (states_of l.kids) l.call
+          l.request l.moment;
       sends : l.out.sends.items ++ rest.sends ≡ l.initial.out.sends.items ++ all.sends;
       marks : l.out.marks.items ++ rest.marks ≡ l.initial.out.marks.items ++ all.marks;
     }

@@ -23,4 +23,5 @@ loop-tree-preserved g c =
 pub returns : goal.returns
 returns g c =
     let none : into_iter_items c.loop-tree.trees ≡ [] = c.in_default.ensures in
-    sym (put-nothing c.loop-tree.at c.loop-tree.kids.items) ∙ sym (ap (λ ts. put_from c.loop-tree.at ts c.loop-tree.kids.items) none) ∙ c.loop-tree.invariant.put ∙ ap (λ ts. put_from c.args.at ts c.args.kids.now.items) c.into_iter-trees.ensures.rest
+    sym (put-nothing c.loop-tree.at c.loop-tree.kids.items) ∙ sym (ap (λ ts. put_from c.loop-tree.at ts c.loop-tree.kids.items) none) ∙ c.loop-tree.invariant.put
+    ∙ ap (λ ts. put_from c.args.at ts c.args.kids.now.items) c.into_iter-trees.ensures.rest

@@ -20,7 +20,8 @@ use Rattle.call_tree.proofs.starting.+start.Goals as goal
 pub start-returns-in_ok-par-in-Par-clause-tree : goal.start-returns-in_ok-par-in-Par-clause-tree
 start-returns-in_ok-par-in-Par-clause-tree g t c n other m =
     let kinds = kinds_of g.M.Mapper.answer g.G.Merger.answer in
-    let plan : par_plan (rule_of c.in-Par.rule) (plans_of c.as_slice.result.now) ≡ c.args.plan.now = ap (λ ks. par_plan (rule_of c.in-Par.rule) (plans_of ks)) c.as_slice.ensures.value ∙ sym (ap plan_of c.in-Par.is) ∙ c.node.ensures in
+    let plan : par_plan (rule_of c.in-Par.rule) (plans_of c.as_slice.result.now) ≡ c.args.plan.now =
+    ap (λ ks. par_plan (rule_of c.in-Par.rule) (plans_of ks)) c.as_slice.ensures.value ∙ sym (ap plan_of c.in-Par.is) ∙ c.node.ensures in
     c.in_ok-par-in-Par.ensures.node ∙ ap (λ (p : Plan g.row.M.Denot g.row.G.Denot). (start_at kinds c.args.node p c.args.call c.args.request c.args.moment).state) plan
     ∙ start-alike kinds c.args.node n c.args.plan.now c.args.call other c.args.request c.args.moment m
 
@@ -44,8 +45,11 @@ start_subs-returns-clause-started g t c =
     let kinds = kinds_of g.M.Mapper.answer g.G.Merger.answer in
     let lim = limits_of c.args.par.now.counts in
     let merges = c.args.par.now.merges in
-    let all = λ (asked : List Mapped). joined [] c.args.out.now.sends.items c.args.out.now.marks.items (subs_left kinds c.args.par.now.end (c.args.node + 1) (plans_of c.args.plans.now) c.args.call asked lim merges c.args.moment []) in
-    left-all kinds c.loop-plan.par c.args.out.now c.loop-plan.out c.loop-plan.number (plans_of (drop c.loop-plan.plan-index c.args.plans.now)) c.args.call (into_iter_items c.loop-plan.asked) lim merges c.args.moment _
+    let all =
+    λ (asked : List Mapped). joined [] c.args.out.now.sends.items c.args.out.now.marks.items
+    (subs_left kinds c.args.par.now.end (c.args.node + 1) (plans_of c.args.plans.now) c.args.call asked lim merges c.args.moment []) in
+    left-all kinds c.loop-plan.par c.args.out.now c.loop-plan.out c.loop-plan.number (plans_of (drop c.loop-plan.plan-index c.args.plans.now)) c.args.call (into_iter_items c.loop-plan.asked)
+    lim merges c.args.moment _
     (nodes-end c.args.plans.now c.loop-plan.plan-index c.loop-plan-test.false) (c.loop-plan.invariant.left ∙ ap all c.into_iter-asked.ensures.rest)
 
 pub start_subs-loop-plan-preserved : goal.start_subs-loop-plan-preserved
@@ -58,11 +62,18 @@ start_subs-loop-plan-preserved g t c =
     let rest = plans_of (drop (c.loop-plan.plan-index + 1) c.args.plans.now) in
     let split : plans_of (drop c.loop-plan.plan-index c.args.plans.now) ≡ plan_then plan rest =
     nodes-drop c.args.plans.now c.loop-plan.plan-index plan c.loop-plan-test.true ∙ ap (λ (p : Plan g.row.M.Denot g.row.G.Denot). plan_then p rest) (sym c.plan-item.is) in
-    let begun = λ (ps : Plans g.row.M.Denot g.row.G.Denot). joined par.kids.items c.loop-plan.out.sends.items c.loop-plan.out.marks.items (subs_left kinds par.end c.loop-plan.number ps c.args.call (into_iter_items c.loop-plan.asked) lim merges c.args.moment (ends_of (states_of par.kids.items))) in
-    let turn = left-turn kinds par c.add.new.self c.loop-plan.out c.start_sub.new.out c.loop-plan.number plan rest c.args.call (into_iter_items c.loop-plan.asked) (into_iter_items c.next_ask-request.new.asked) c.next_ask-request.result c.is_none.result c.in_ok-tree.tree lim merges c.args.moment _
-    c.loop-plan.invariant.limits c.loop-plan.invariant.merges (none-is par.end c.is_none.result c.is_none.ensures) c.next_ask-request.ensures.request c.next_ask-request.ensures.rest c.in_ok-tree.ensures.tree c.in_ok-tree.ensures.grown c.in_ok-add.ensures.kids c.in_ok-add.ensures.end
+    let begun =
+    λ (ps : Plans g.row.M.Denot g.row.G.Denot). joined par.kids.items c.loop-plan.out.sends.items c.loop-plan.out.marks.items
+    (subs_left kinds par.end c.loop-plan.number ps c.args.call (into_iter_items c.loop-plan.asked) lim merges c.args.moment (ends_of (states_of par.kids.items))) in
+    let turn =
+    left-turn kinds par c.add.new.self c.loop-plan.out c.start_sub.new.out c.loop-plan.number plan rest c.args.call (into_iter_items c.loop-plan.asked)
+    (into_iter_items c.next_ask-request.new.asked) c.next_ask-request.result c.is_none.result c.in_ok-tree.tree lim merges c.args.moment _
+    c.loop-plan.invariant.limits c.loop-plan.invariant.merges (none-is par.end c.is_none.result c.is_none.ensures) c.next_ask-request.ensures.request c.next_ask-request.ensures.rest
+    c.in_ok-tree.ensures.tree c.in_ok-tree.ensures.grown c.in_ok-add.ensures.kids c.in_ok-add.ensures.end
     (sym (ap begun split) ∙ c.loop-plan.invariant.left) in
-    let number = next-number kinds c.add.new.self.kids.items par.kids.items c.in_ok-tree.tree c.args.node c.loop-plan.number c.is_none.result plan c.args.call c.next_ask-request.result c.args.moment c.in_ok-add.ensures.kids c.in_ok-tree.ensures.tree c.loop-plan.invariant.number in
+    let number =
+    next-number kinds c.add.new.self.kids.items par.kids.items c.in_ok-tree.tree c.args.node c.loop-plan.number c.is_none.result plan c.args.call c.next_ask-request.result c.args.moment
+    c.in_ok-add.ensures.kids c.in_ok-tree.ensures.tree c.loop-plan.invariant.number in
     let more = c.nodes-number.ensures in
     let few = c.loop-plan.invariant.few in
     let nodes_split = ap nodes_of split in
@@ -72,20 +83,25 @@ start_subs-loop-plan-preserved g t c =
       merges = c.in_ok-add.ensures.merges ∙ c.loop-plan.invariant.merges;
       number = omega (arith, number, more);
       few = omega (arith, few, more, nodes_split);
-      left = ap (λ n. joined c.add.new.self.kids.items c.start_sub.new.out.sends.items c.start_sub.new.out.marks.items (subs_left kinds c.add.new.self.end (c.loop-plan.number + n) rest c.args.call (into_iter_items c.next_ask-request.new.asked) lim merges c.args.moment (ends_of (states_of c.add.new.self.kids.items)))) more ∙ turn;
+      left = ap (λ n. joined c.add.new.self.kids.items c.start_sub.new.out.sends.items c.start_sub.new.out.marks.items
+          (subs_left kinds c.add.new.self.end (c.loop-plan.number + n) rest c.args.call (into_iter_items c.next_ask-request.new.asked) lim merges c.args.moment
+          (ends_of (states_of c.add.new.self.kids.items)))) more
+          ∙ turn;
     }
 
 pub start-returns-in_ok-sel-in-Sel-clause-tree : goal.start-returns-in_ok-sel-in-Sel-clause-tree
 start-returns-in_ok-sel-in-Sel-clause-tree g t c n other m =
     let kinds = kinds_of g.M.Mapper.answer g.G.Merger.answer in
-    let plan : sel_plan c.in-Sel.timeout (plans_of c.as_slice-in-Sel.result.now) ≡ c.args.plan.now = ap (λ ks. sel_plan c.in-Sel.timeout (plans_of ks)) c.as_slice-in-Sel.ensures.value ∙ sym (ap plan_of c.in-Sel.is) ∙ c.node.ensures in
+    let plan : sel_plan c.in-Sel.timeout (plans_of c.as_slice-in-Sel.result.now) ≡ c.args.plan.now =
+    ap (λ ks. sel_plan c.in-Sel.timeout (plans_of ks)) c.as_slice-in-Sel.ensures.value ∙ sym (ap plan_of c.in-Sel.is) ∙ c.node.ensures in
     c.in_ok-sel-in-Sel.ensures.node ∙ ap (λ (p : Plan g.row.M.Denot g.row.G.Denot). (start_at kinds c.args.node p c.args.call c.args.request c.args.moment).state) plan
     ∙ start-alike kinds c.args.node n c.args.plan.now c.args.call other c.args.request c.args.moment m
 
 pub start_tries-returns-clause-started : goal.start_tries-returns-clause-started
 start_tries-returns-clause-started g t c =
     let kinds = kinds_of g.M.Mapper.answer g.G.Merger.answer in
-    tries-all kinds c.loop-plan.sel c.args.out.now c.loop-plan.out c.loop-plan.going c.loop-plan.number (plans_of (drop c.loop-plan.plan-index c.args.plans.now)) c.args.call c.args.sel.now.request c.args.moment _
+    tries-all kinds c.loop-plan.sel c.args.out.now c.loop-plan.out c.loop-plan.going c.loop-plan.number (plans_of (drop c.loop-plan.plan-index c.args.plans.now)) c.args.call
+    c.args.sel.now.request c.args.moment _
     c.loop-plan.invariant.open_ (nodes-end c.args.plans.now c.loop-plan.plan-index c.loop-plan-test.false) c.loop-plan.invariant.left
 
 pub start_tries-loop-plan-preserved : goal.start_tries-loop-plan-preserved
@@ -97,14 +113,21 @@ start_tries-loop-plan-preserved g t c =
     let rest = plans_of (drop (c.loop-plan.plan-index + 1) c.args.plans.now) in
     let split : plans_of (drop c.loop-plan.plan-index c.args.plans.now) ≡ plan_then plan rest =
     nodes-drop c.args.plans.now c.loop-plan.plan-index plan c.loop-plan-test.true ∙ ap (λ (p : Plan g.row.M.Denot g.row.G.Denot). plan_then p rest) (sym c.plan-item.is) in
-    let begun = λ (ps : Plans g.row.M.Denot g.row.G.Denot). joined sel.kids.items c.loop-plan.out.sends.items c.loop-plan.out.marks.items (tries_left kinds c.loop-plan.going sel.end c.loop-plan.number ps c.args.call c.args.sel.now.request c.args.moment) in
+    let begun =
+    λ (ps : Plans g.row.M.Denot g.row.G.Denot). joined sel.kids.items c.loop-plan.out.sends.items c.loop-plan.out.marks.items
+    (tries_left kinds c.loop-plan.going sel.end c.loop-plan.number ps c.args.call c.args.sel.now.request c.args.moment) in
     let here = c.loop-plan-test.true in
     let all_left = c.loop-plan.invariant.count in
     let count : c.loop-plan.left - 1 + (c.loop-plan.plan-index + 1) ≡ length c.args.plans.now = omega (arith, here, all_left) in
-    let turn = tries-turn kinds sel now c.loop-plan.out c.start_sub.new.out c.loop-plan.number plan rest c.args.call c.args.sel.now.request c.list.result.now c.in_ok-request.request c.loop-plan.going (nat_lt 0 (c.loop-plan.left - 1)) c.in_ok-goes.goes (option_map (λ e. e.now) c.end.result) c.take.result c.in_ok-goes.over c.in_ok-tree.tree c.args.moment _
-    c.in_ok-request.ensures (c.list.ensures ∙ c.loop-plan.invariant.request) (left-is c.args.plans.now c.loop-plan.plan-index (c.loop-plan.left - 1) count) c.end.ensures c.take.ensures.value c.in_ok-goes.ensures c.in_ok-tree.ensures.tree c.in_ok-tree.ensures.grown c.in_ok-add.ensures.kids refl
+    let turn =
+    tries-turn kinds sel now c.loop-plan.out c.start_sub.new.out c.loop-plan.number plan rest c.args.call c.args.sel.now.request c.list.result.now c.in_ok-request.request c.loop-plan.going
+    (nat_lt 0 (c.loop-plan.left - 1)) c.in_ok-goes.goes (option_map (λ e. e.now) c.end.result) c.take.result c.in_ok-goes.over c.in_ok-tree.tree c.args.moment _
+    c.in_ok-request.ensures (c.list.ensures ∙ c.loop-plan.invariant.request) (left-is c.args.plans.now c.loop-plan.plan-index (c.loop-plan.left - 1) count) c.end.ensures c.take.ensures.value
+    c.in_ok-goes.ensures c.in_ok-tree.ensures.tree c.in_ok-tree.ensures.grown c.in_ok-add.ensures.kids refl
     (sym (ap begun split) ∙ c.loop-plan.invariant.left) in
-    let number = next-number kinds c.add.new.self.kids.items sel.kids.items c.in_ok-tree.tree c.args.node c.loop-plan.number true plan c.args.call c.in_ok-request.request c.args.moment c.in_ok-add.ensures.kids c.in_ok-tree.ensures.tree c.loop-plan.invariant.number in
+    let number =
+    next-number kinds c.add.new.self.kids.items sel.kids.items c.in_ok-tree.tree c.args.node c.loop-plan.number true plan c.args.call c.in_ok-request.request c.args.moment
+    c.in_ok-add.ensures.kids c.in_ok-tree.ensures.tree c.loop-plan.invariant.number in
     let more = c.nodes-number.ensures in
     let few = c.loop-plan.invariant.few in
     let nodes_split = ap nodes_of split in
@@ -115,5 +138,7 @@ start_tries-loop-plan-preserved g t c =
       few = omega (arith, few, more, nodes_split);
       count = count;
       open_ = λ goes. ap (λ r. r.1) c.in_ok-goes.ensures ∙ going-open c.loop-plan.going c.take.result _ _ (sym (ap (λ r. r.0) c.in_ok-goes.ensures) ∙ goes);
-      left = ap (λ n. joined now.kids.items c.start_sub.new.out.sends.items c.start_sub.new.out.marks.items (tries_left kinds c.in_ok-goes.goes now.end (c.loop-plan.number + n) rest c.args.call c.args.sel.now.request c.args.moment)) more ∙ turn;
+      left = ap (λ n. joined now.kids.items c.start_sub.new.out.sends.items c.start_sub.new.out.marks.items
+          (tries_left kinds c.in_ok-goes.goes now.end (c.loop-plan.number + n) rest c.args.call c.args.sel.now.request c.args.moment)) more
+          ∙ turn;
     }

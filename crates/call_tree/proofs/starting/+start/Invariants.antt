@@ -19,8 +19,11 @@ invariant-start_subs-loop-plan g l =
       merges : l.par.merges ≡ l.initial.par.merges;
       number : l.number ≡ l.node + (1 + size_of (states_of l.par.kids.items));
       few : l.number + nodes_of (plans_of (drop l.plan-index l.plans)) ≡ l.node + (1 + nodes_of (plans_of l.plans));
-      left : joined l.par.kids.items l.out.sends.items l.out.marks.items (subs_left kinds l.par.end l.number (plans_of (drop l.plan-index l.plans)) l.call (into_iter_items l.asked) (limits_of l.initial.par.counts) l.initial.par.merges l.moment (ends_of (states_of l.par.kids.items)))
-          ≡ joined [] l.initial.out.sends.items l.initial.out.marks.items (subs_left kinds l.initial.par.end (l.node + 1) (plans_of l.plans) l.call (into_iter_items l.initial.asked) (limits_of l.initial.par.counts) l.initial.par.merges l.moment []);
+      left : joined l.par.kids.items l.out.sends.items l.out.marks.items
+          (subs_left kinds l.par.end l.number (plans_of (drop l.plan-index l.plans)) l.call (into_iter_items l.asked) (limits_of l.initial.par.counts) l.initial.par.merges l.moment
+          (ends_of (states_of l.par.kids.items)))
+          ≡ joined [] l.initial.out.sends.items l.initial.out.marks.items
+          (subs_left kinds l.initial.par.end (l.node + 1) (plans_of l.plans) l.call (into_iter_items l.initial.asked) (limits_of l.initial.par.counts) l.initial.par.merges l.moment []);
     }
 
 abbrev pub decreases-start : goal.decreases-start

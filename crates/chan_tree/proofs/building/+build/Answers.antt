@@ -25,7 +25,10 @@ build-build_tries-requires g t c κs within =
 pub build-returns-in_ok-leaf-in-Leaf : goal.build-returns-in_ok-leaf-in-Leaf
 build-returns-in_ok-leaf-in-Leaf g t c =
     let at = item-at c.args.chans.now c.args.number c.index-chans-number.result c.requires.there c.index-chans-number.is ∙ ap Some c.in-Leaf.is in
-    record { tree = subst (λ l. IsPlanOf c.args.chans.now c.args.number c.args.call (spec.leaf_plan l)) (sym c.in_ok-leaf-in-Leaf.ensures) (leaf-built c.args.chans.now c.args.number c.requires.sound c.args.call c.in-Leaf.leaf at) }
+    record {
+      tree = subst (λ l. IsPlanOf c.args.chans.now c.args.number c.args.call (spec.leaf_plan l)) (sym c.in_ok-leaf-in-Leaf.ensures)
+          (leaf-built c.args.chans.now c.args.number c.requires.sound c.args.call c.in-Leaf.leaf at);
+    }
 
 pub build-returns-in_ok-kids-in-Par : goal.build-returns-in_ok-kids-in-Par
 build-returns-in_ok-kids-in-Par g t c =
@@ -52,7 +55,10 @@ build-returns-in_ok-kids-in-Part g t c =
 
 pub build_subs-loop-sub-init : goal.build_subs-loop-sub-init
 build_subs-loop-sub-init g t c =
-    record { so_far = subst (λ built. AreLeft c.args.chans.now c.args.call (numbers_of c.args.subs.now) built (numbers_of c.args.subs.now)) (sym c.new-kids.ensures.items) (left-all c.args.chans.now c.args.call (numbers_of c.args.subs.now)) }
+    record {
+      so_far = subst (λ built. AreLeft c.args.chans.now c.args.call (numbers_of c.args.subs.now) built (numbers_of c.args.subs.now)) (sym c.new-kids.ensures.items)
+          (left-all c.args.chans.now c.args.call (numbers_of c.args.subs.now));
+    }
 
 pub build_subs-build-requires : goal.build_subs-build-requires
 build_subs-build-requires g t c κs within =

@@ -8,7 +8,13 @@ abbrev pub invariant-build_subs-loop-sub : goal.invariant-build_subs-loop-sub
 invariant-build_subs-loop-sub g l = record { so_far : AreLeft l.chans l.call (numbers_of l.subs) l.kids.items (numbers_of (drop l.sub-index l.subs)) }
 
 abbrev pub invariant-build_tries-loop-at : goal.invariant-build_tries-loop-at
-invariant-build_tries-loop-at g l = record { so_far : AreLeft l.chans l.call (tries l.sel l.call) l.kids.items (tries_from l.sel.subs l.call l.at (l.count - l.at)); within : l.at ≤ l.count; count : l.count ≡ l.sel.retry + 1; subs : l.subs ≡ l.sel.subs }
+invariant-build_tries-loop-at g l =
+    record {
+      so_far : AreLeft l.chans l.call (tries l.sel l.call) l.kids.items (tries_from l.sel.subs l.call l.at (l.count - l.at));
+      within : l.at ≤ l.count;
+      count : l.count ≡ l.sel.retry + 1;
+      subs : l.subs ≡ l.sel.subs;
+    }
 
 abbrev pub decreases-build : goal.decreases-build
 decreases-build g l = 2 * l.number + 1

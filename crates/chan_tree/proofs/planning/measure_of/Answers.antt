@@ -19,7 +19,9 @@ loop-at-preserved g c =
     let there = c.requires.there in
     let test = c.loop-at-test.true in
     let at = item-at c.args.chans.now c.loop-at.at c.index-chans-at.result (omega (arith, test, there)) c.index-chans-at.is in
-    let is = measured c.args.chans.now c.args.call c.requires.sound c.loop-at.at c.as_slice-in-loop-at.result.now c.index-chans-at.result c.measure_chan-measure.result (c.as_slice-in-loop-at.ensures.value ∙ c.loop-at.invariant.measured) at
+    let is =
+    measured c.args.chans.now c.args.call c.requires.sound c.loop-at.at c.as_slice-in-loop-at.result.now c.index-chans-at.result c.measure_chan-measure.result
+    (c.as_slice-in-loop-at.ensures.value ∙ c.loop-at.invariant.measured) at
     c.measure_chan-measure.ensures.depth c.measure_chan-measure.ensures.missing c.measure_chan-measure.ensures.width in
     record {
       measured =
@@ -57,4 +59,5 @@ returns g c =
     let end : c.loop-at.at ≡ c.args.number = omega (arith, within, test) in
     let at = item-at c.args.chans.now c.args.number c.index-chans-number.result c.requires.there c.index-chans-number.is in
     measured c.args.chans.now c.args.call c.requires.sound c.args.number c.as_slice-2.result.now c.index-chans-number.result c.measure_chan-2.result
-    (c.as_slice-2.ensures.value ∙ c.loop-at.invariant.measured ∙ ap (measures c.args.chans.now c.args.call) end) at c.measure_chan-2.ensures.depth c.measure_chan-2.ensures.missing c.measure_chan-2.ensures.width
+    (c.as_slice-2.ensures.value ∙ c.loop-at.invariant.measured ∙ ap (measures c.args.chans.now c.args.call) end) at c.measure_chan-2.ensures.depth c.measure_chan-2.ensures.missing
+    c.measure_chan-2.ensures.width

@@ -9,4 +9,5 @@ returns-clause-granted g c =
     let deep = c.if-measure-gt8.false in
     let wide = c.if-measure-gt1024.false in
     subst (IsGranted c.args.chans.now c.args.number c.args.call) (sym c.in-Ok-tabled.ensures)
-    (granted c.args.chans.now c.args.call c.requires.sound c.args.number c.requires.there c.in-Ok.measure c.in-Ok-build.tree c.in-Ok.ensures (omega (arith, deep)) c.in_default-missing.is (omega (arith, wide)) c.in-Ok-build.ensures.tree)
+    (granted c.args.chans.now c.args.call c.requires.sound c.args.number c.requires.there c.in-Ok.measure c.in-Ok-build.tree c.in-Ok.ensures (omega (arith, deep)) c.in_default-missing.is
+    (omega (arith, wide)) c.in-Ok-build.ensures.tree)

@@ -7,7 +7,8 @@ use Rattle.chan_tree.specs.Measures.{numbers_of}
 use Rattle.chan_tree.specs.Sizes.{node_behind, retry_among}
 use Rattle.chan_tree.proofs.Built.{item-at, sound-here, before-drop, numbers-drop, numbers-end, try-before}
 use Rattle.chan_tree.proofs.Turns.{tries_next, tries_end}
-use Rattle.chan_tree.proofs.Sizes.{retry-found, retry-next, retry-end, behind-next, behind-end, behind-more, none-if, leaf-nodes, leaf-retry, part-behind, part-retry, par-retry, par-behind, sel-retry, sel-behind}
+use Rattle.chan_tree.proofs.Sizes.{retry-found, retry-next, retry-end, behind-next, behind-end, behind-more, none-if, leaf-nodes, leaf-retry, part-behind, part-retry, par-retry, par-behind}
+use Rattle.chan_tree.proofs.Sizes.{sel-retry, sel-behind}
 use Rattle.chan_tree.proofs.walking.+retry.Goals as goal
 
 pub retry_among_subs-retry_at-found-requires : goal.retry_among_subs-retry_at-found-requires
@@ -41,16 +42,19 @@ retry_among_subs-loop-sub-preserved g t c =
     let node = c.retry_at-found.ensures.behind none in
     record {
       place =
-          ap (node_behind chans rest c.args.call) node ∙ sym (behind-next chans c.args.call item.chan rest c.loop-sub.node) ∙ ap (λ xs. node_behind chans xs c.args.call c.loop-sub.node) (sym split) ∙ c.loop-sub.invariant.place;
+          ap (node_behind chans rest c.args.call) node ∙ sym (behind-next chans c.args.call item.chan rest c.loop-sub.node)
+          ∙ ap (λ xs. node_behind chans xs c.args.call c.loop-sub.node) (sym split) ∙ c.loop-sub.invariant.place;
       none =
-          ap (λ n. retry_among chans rest c.args.call n c.args.wanted) node ∙ sym (retry-next chans c.args.call item.chan rest c.loop-sub.node c.args.wanted (sym none ∙ c.retry_at-found.ensures.retry))
+          ap (λ n. retry_among chans rest c.args.call n c.args.wanted) node
+          ∙ sym (retry-next chans c.args.call item.chan rest c.loop-sub.node c.args.wanted (sym none ∙ c.retry_at-found.ensures.retry))
           ∙ ap (λ xs. retry_among chans xs c.args.call c.loop-sub.node c.args.wanted) (sym split) ∙ c.loop-sub.invariant.none;
     }
 
 pub retry_among_subs-returns-clause-retry : goal.retry_among_subs-returns-clause-retry
 retry_among_subs-returns-clause-retry g t c =
     let none = numbers-end c.args.subs.now c.loop-sub.sub-index (let past = c.loop-sub-test.false in omega (arith, past)) in
-    sym (retry-end c.args.chans.now c.args.call c.loop-sub.node c.args.wanted) ∙ ap (λ xs. retry_among c.args.chans.now xs c.args.call c.loop-sub.node c.args.wanted) (sym none) ∙ c.loop-sub.invariant.none
+    sym (retry-end c.args.chans.now c.args.call c.loop-sub.node c.args.wanted) ∙ ap (λ xs. retry_among c.args.chans.now xs c.args.call c.loop-sub.node c.args.wanted) (sym none)
+    ∙ c.loop-sub.invariant.none
 
 pub retry_among_subs-returns-clause-behind : goal.retry_among_subs-returns-clause-behind
 retry_among_subs-returns-clause-behind g t c is =
@@ -95,9 +99,11 @@ retry_among_tries-loop-at-preserved g t c =
     let test = c.loop-at-test.true in
     record {
       place =
-          ap (node_behind chans rest c.args.call) node ∙ sym (behind-next chans c.args.call c.try_at.result rest c.loop-at.node) ∙ ap (λ xs. node_behind chans xs c.args.call c.loop-at.node) (sym split) ∙ c.loop-at.invariant.place;
+          ap (node_behind chans rest c.args.call) node ∙ sym (behind-next chans c.args.call c.try_at.result rest c.loop-at.node)
+          ∙ ap (λ xs. node_behind chans xs c.args.call c.loop-at.node) (sym split) ∙ c.loop-at.invariant.place;
       none =
-          ap (λ n. retry_among chans rest c.args.call n c.args.wanted) node ∙ sym (retry-next chans c.args.call c.try_at.result rest c.loop-at.node c.args.wanted (sym none ∙ c.retry_at-found.ensures.retry))
+          ap (λ n. retry_among chans rest c.args.call n c.args.wanted) node
+          ∙ sym (retry-next chans c.args.call c.try_at.result rest c.loop-at.node c.args.wanted (sym none ∙ c.retry_at-found.ensures.retry))
           ∙ ap (λ xs. retry_among chans xs c.args.call c.loop-at.node c.args.wanted) (sym split) ∙ c.loop-at.invariant.none;
       within = omega (arith, test);
       count = c.loop-at.invariant.count;
@@ -108,7 +114,8 @@ pub retry_among_tries-returns-clause-retry : goal.retry_among_tries-returns-clau
 retry_among_tries-returns-clause-retry g t c =
     let count = c.from-count.result + 1 in
     let none = tries_end c.args.sel.now.subs c.args.call c.loop-at.at count (let past = c.loop-at-test.false in omega (arith, past)) in
-    sym (retry-end c.args.chans.now c.args.call c.loop-at.node c.args.wanted) ∙ ap (λ xs. retry_among c.args.chans.now xs c.args.call c.loop-at.node c.args.wanted) (sym none) ∙ c.loop-at.invariant.none
+    sym (retry-end c.args.chans.now c.args.call c.loop-at.node c.args.wanted) ∙ ap (λ xs. retry_among c.args.chans.now xs c.args.call c.loop-at.node c.args.wanted) (sym none)
+    ∙ c.loop-at.invariant.none
 
 pub retry_among_tries-returns-clause-behind : goal.retry_among_tries-returns-clause-behind
 retry_among_tries-returns-clause-behind g t c is =
@@ -120,9 +127,13 @@ pub retry_at-retry_among_subs-requires : goal.retry_at-retry_among_subs-requires
 retry_at-retry_among_subs-requires g t c κs within =
     let at = item-at c.args.chans.now c.args.number c.index-chans-number.result c.requires.there c.index-chans-number.is ∙ ap Some c.in-Par.is in
     let before = sound-here c.args.chans.now c.args.number c.requires.sound (chan.Par c.in-Par.par) at in
-    let behind = ap (λ xs. node_behind c.args.chans.now (numbers_of xs) c.args.call (c.args.node.now + 1)) c.list.ensures ∙ par-behind c.args.chans.now c.args.call c.requires.sound c.args.number c.requires.there c.in-Par.par c.args.node.now at in
-    let few = c.requires.few in
-    (omega (arith, c.decreases), (search rules, (search rules, (c.requires.sound, (c.requires.there, (subst (λ xs. AreBefore c.args.number (numbers_of xs)) (sym c.list.ensures) before, omega (arith, behind, few)))))))
+    let behind =
+    ap (λ xs. node_behind c.args.chans.now (numbers_of xs) c.args.call (c.args.node.now + 1)) c.list.ensures
+    ∙ par-behind c.args.chans.now c.args.call c.requires.sound c.args.number c.requires.there c.in-Par.par c.args.node.now at in
+    let few = c.requires.few in (
+      omega (arith, c.decreases),
+      (search rules, (search rules, (c.requires.sound, (c.requires.there, (subst (λ xs. AreBefore c.args.number (numbers_of xs)) (sym c.list.ensures) before, omega (arith, behind, few)))))),
+    )
 
 pub retry_at-retry_among_tries-requires : goal.retry_at-retry_among_tries-requires
 retry_at-retry_among_tries-requires g t c κs within =

@@ -26,7 +26,8 @@ size_of-size_of_tries-requires g t c κs within =
 pub size_of-returns-in-Leaf : goal.size_of-returns-in-Leaf
 size_of-returns-in-Leaf g t c =
     let at = item-at c.args.chans.now c.args.number c.index-chans-number.result c.requires.there c.index-chans-number.is ∙ ap Some c.in-Leaf.is in
-    leaf-size c.args.chans.now c.requires.sound c.args.call c.args.number c.requires.there c.in-Leaf.leaf c.narrow.result at (subst (λ n. IsSize c.narrow.result 1 (n + 1)) c.from.ensures c.narrow.ensures)
+    leaf-size c.args.chans.now c.requires.sound c.args.call c.args.number c.requires.there c.in-Leaf.leaf c.narrow.result at
+    (subst (λ n. IsSize c.narrow.result 1 (n + 1)) c.from.ensures c.narrow.ensures)
 
 pub size_of-returns-in-Par : goal.size_of-returns-in-Par
 size_of-returns-in-Par g t c =
@@ -61,13 +62,15 @@ size_of_subs-returns-in_default g t c =
     let rest = numbers_of (drop (c.loop-sub.sub-index + 1) c.args.subs.now) in
     let split = numbers-drop c.args.subs.now c.loop-sub.sub-index item c.loop-sub-test.true ∙ ap (λ s. s.chan ∷ rest) (sym c.sub-item.is) in
     size-wide chans c.requires.sound c.args.call c.args.number c.requires.there (numbers_of c.args.subs.now) c.loop-sub.size item.chan rest
-    (subst (IsSizeSoFar chans (numbers_of c.args.subs.now) c.args.call c.loop-sub.size) split c.loop-sub.invariant.so_far) (subst (IsSizeOf chans item.chan c.args.call) c.in_default.is c.size_of.ensures)
+    (subst (IsSizeSoFar chans (numbers_of c.args.subs.now) c.args.call c.loop-sub.size) split c.loop-sub.invariant.so_far)
+    (subst (IsSizeOf chans item.chan c.args.call) c.in_default.is c.size_of.ensures)
 
 pub size_of_subs-and-requires-clause-here : goal.size_of_subs-and-requires-clause-here
 size_of_subs-and-requires-clause-here g t c = size-narrow c.args.chans.now _ _ c.args.call c.loop-sub.size c.loop-sub.invariant.so_far
 
 pub size_of_subs-and-requires-clause-other : goal.size_of_subs-and-requires-clause-other
-size_of_subs-and-requires-clause-other g t c = size-one c.args.chans.now _ c.args.call c.in-Some.more (subst (IsSizeOf c.args.chans.now c.sub-item.result.chan c.args.call) c.in-Some.is c.size_of.ensures)
+size_of_subs-and-requires-clause-other g t c =
+    size-one c.args.chans.now _ c.args.call c.in-Some.more (subst (IsSizeOf c.args.chans.now c.sub-item.result.chan c.args.call) c.in-Some.is c.size_of.ensures)
 
 pub size_of_subs-returns-in_default-and : goal.size_of_subs-returns-in_default-and
 size_of_subs-returns-in_default-and g t c =
@@ -184,4 +187,5 @@ size_of_tries-returns g t c =
     let all = tries c.args.sel.now c.args.call in
     let count = c.from-count.result + 1 in
     let none = tries_end c.args.sel.now.subs c.args.call c.loop-at.at count (let past = c.loop-at-test.false in omega (arith, past)) in
-    size-last c.args.chans.now c.requires.sound c.args.call c.args.number c.requires.there all c.loop-at.size (subst (IsSizeSoFar c.args.chans.now all c.args.call c.loop-at.size) none c.loop-at.invariant.so_far)
+    size-last c.args.chans.now c.requires.sound c.args.call c.args.number c.requires.there all c.loop-at.size
+    (subst (IsSizeSoFar c.args.chans.now all c.args.call c.loop-at.size) none c.loop-at.invariant.so_far)

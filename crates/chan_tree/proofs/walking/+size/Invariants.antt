@@ -18,7 +18,13 @@ abbrev pub invariant-size_of_subs-loop-sub : goal.invariant-size_of_subs-loop-su
 invariant-size_of_subs-loop-sub g l = record { so_far : IsSizeSoFar l.chans (numbers_of l.subs) l.call l.size (numbers_of (drop l.sub-index l.subs)) }
 
 abbrev pub invariant-size_of_tries-loop-at : goal.invariant-size_of_tries-loop-at
-invariant-size_of_tries-loop-at g l = record { so_far : IsSizeSoFar l.chans (tries l.sel l.call) l.call l.size (tries_from l.sel.subs l.call l.at (l.count - l.at)); within : l.at ≤ l.count; count : l.count ≡ l.sel.retry + 1; subs : l.subs ≡ l.sel.subs }
+invariant-size_of_tries-loop-at g l =
+    record {
+      so_far : IsSizeSoFar l.chans (tries l.sel l.call) l.call l.size (tries_from l.sel.subs l.call l.at (l.count - l.at));
+      within : l.at ≤ l.count;
+      count : l.count ≡ l.sel.retry + 1;
+      subs : l.subs ≡ l.sel.subs;
+    }
 
 abbrev pub decreases-size_of_tries-loop-at : goal.decreases-size_of_tries-loop-at
 decreases-size_of_tries-loop-at g l = l.count - l.at

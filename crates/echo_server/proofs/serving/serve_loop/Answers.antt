@@ -56,7 +56,8 @@ returns-in-Fault-clause-served g c =
     let a = brought_in _ _ _ _ _ _ _ _ _ _ _ _ c.loop.invariant.serving c.in-Ok-read_piece.brought c.in-Ok-read_piece.ensures.brings in
     let d = c.in_default-answer_waiting.ensures in
     let e = fault_is _ _ _ _ _ _ _ c.in-Ok-read_piece.brought c.in-Ok-read_piece.ensures.brings c.in-Fault.is in
-    failed_so _ _ _ _ _ _ _ _ _ _ _ _ _ (answered_all _ _ _ _ _ _ _ _ _ _ a d.all d.goes_on d.turn d.none) (left_frames c.read_piece.new.frames c.answer_waiting.new.frames d.none) c.loop.invariant.reads e.1
+    failed_so _ _ _ _ _ _ _ _ _ _ _ _ _ (answered_all _ _ _ _ _ _ _ _ _ _ a d.all d.goes_on d.turn d.none) (left_frames c.read_piece.new.frames c.answer_waiting.new.frames d.none)
+    c.loop.invariant.reads e.1
     (left_fault c.read_piece.new.frames c.answer_waiting.new.frames d.none ∙ (ap (λ (x : Stream). x.fault) e.0 ∙ c.loop.invariant.plain))
 
 pub returns-in-Bad-clause-served : goal.returns-in-Bad-clause-served

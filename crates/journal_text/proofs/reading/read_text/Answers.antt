@@ -8,7 +8,8 @@ pub loop-before-init : goal.loop-before-init
 loop-before-init c = rw c.new-draft.ensures refl
 
 pub loop-before-preserved : goal.loop-before-preserved
-loop-before-preserved c = taken c.in-Some.lines.now c.in-Some.rest.now.now c.loop-before.draft c.text.new.self c.loop-before.before _ _ c.loop-before-test.true c.in-Ok-text.ensures c.loop-before.invariant
+loop-before-preserved c =
+    taken c.in-Some.lines.now c.in-Some.rest.now.now c.loop-before.draft c.text.new.self c.loop-before.before _ _ c.loop-before-test.true c.in-Ok-text.ensures c.loop-before.invariant
 
 pub returns-in-Err-Refused : goal.returns-in-Err-Refused
 returns-in-Err-Refused c =

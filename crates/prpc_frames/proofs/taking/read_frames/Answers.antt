@@ -9,15 +9,18 @@ pub frames-preserved : goal.frames-preserved
 frames-preserved c =
     let found : Ok (Some c.in-Ok-Some.whole) ≡ c.in_ok-whole.field-0 = sym (c.in-Ok-Some.is ∙ ap (λ (o : Option Whole). Ok o) c.in-Ok-Some.field-0-is) in
     let here : Ok (Some c.in-Ok-Some.whole) ≡ frame c.frames.place (drop c.frames.used c.args.bytes.now) = found ∙ (c.in_ok-whole.ensures.read ∙ ap (frame c.frames.place) c.split_at.ensures.back) in
-    let inside : (12 ≤ c.in-Ok-Some.whole.size) × (c.in-Ok-Some.whole.size ≤ length c.split_at.result.1.now) = whole_inside c.in_ok-whole.field-0 c.in-Ok-Some.whole (length c.split_at.result.1.now) found c.in_ok-whole.ensures.within in
+    let inside : (12 ≤ c.in-Ok-Some.whole.size) × (c.in-Ok-Some.whole.size ≤ length c.split_at.result.1.now) =
+    whole_inside c.in_ok-whole.field-0 c.in-Ok-Some.whole (length c.split_at.result.1.now) found c.in_ok-whole.ensures.within in
     let longer : c.push_back.new.self.items ≡ c.frames.waiting.items ++ c.in-Ok-Some.whole.frame ∷ [] = c.in_ok-push_back-in-Ok-Some.ensures.items in
     let next = one_more c.frames.waiting.items c.push_back.new.self.items c.frames.place c.frames.used c.in-Ok-Some.whole c.args.bytes.now _ longer here c.frames.invariant.0 in
-    let front : IsFront c.args.waiting.now.items c.push_back.new.self.items = rw longer (front_more c.args.waiting.now.items c.frames.waiting.items (c.in-Ok-Some.whole.frame ∷ []) c.frames.invariant.2) in
+    let front : IsFront c.args.waiting.now.items c.push_back.new.self.items =
+    rw longer (front_more c.args.waiting.now.items c.frames.waiting.items (c.in-Ok-Some.whole.frame ∷ []) c.frames.invariant.2) in
     (rw c.saturating_add-place.ensures next, omega (arith, inside.1, c.split_at.ensures.back_len), front)
 
 pub returns-in-Ok-None-clause-read : goal.returns-in-Ok-None-clause-read
 returns-in-Ok-None-clause-read c =
-    let here : Ok None ≡ frame c.frames.place (drop c.frames.used c.args.bytes.now) = sym (c.in-Ok-None.is ∙ ap (λ (o : Option Whole). Ok o) c.in-Ok-None.field-0-is) ∙ (c.in_ok-whole.ensures.read ∙ ap (frame c.frames.place) c.split_at.ensures.back) in
+    let here : Ok None ≡ frame c.frames.place (drop c.frames.used c.args.bytes.now) =
+    sym (c.in-Ok-None.is ∙ ap (λ (o : Option Whole). Ok o) c.in-Ok-None.field-0-is) ∙ (c.in_ok-whole.ensures.read ∙ ap (frame c.frames.place) c.split_at.ensures.back) in
     no_more c.frames.waiting.items c.frames.place c.frames.used c.args.bytes.now _ here c.frames.invariant.0
 
 pub returns-in-Err-clause-read : goal.returns-in-Err-clause-read

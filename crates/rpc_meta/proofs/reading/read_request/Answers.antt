@@ -15,12 +15,14 @@ pub returns-in_err-request : goal.returns-in_err-request
 returns-in_err-request c =
     let p = err_from_is_err_and c.from_residual-in_err-request.result c.from_residual-in_err-request.ensures.1 in
     let next = next_is c.fields.fields c.next.new.self c.in_ok-field.field-0 (Some c.in-Some.field) c.in-Some.is c.in_ok-field.ensures.next in
-    rw (p.1, p.2) (at_field request_field (request_seen c.fields.request) (field_seen c.in-Some.field) c.fields.fields c.next.new.self _ c.in_err-request.field-0.0 next c.in_err-request.ensures c.fields.invariant)
+    rw (p.1, p.2) (at_field request_field (request_seen c.fields.request) (field_seen c.in-Some.field) c.fields.fields c.next.new.self _ c.in_err-request.field-0.0 next
+    c.in_err-request.ensures c.fields.invariant)
 
 pub fields-preserved : goal.fields-preserved
 fields-preserved c =
     let next = next_is c.fields.fields c.next.new.self c.in_ok-field.field-0 (Some c.in-Some.field) c.in-Some.is c.in_ok-field.ensures.next in
-    goes_on request_field (request_seen c.fields.request) (request_seen c.in_ok-request.request) (field_seen c.in-Some.field) c.fields.fields c.next.new.self _ next c.in_ok-request.ensures c.fields.invariant
+    goes_on request_field (request_seen c.fields.request) (request_seen c.in_ok-request.request) (field_seen c.in-Some.field) c.fields.fields c.next.new.self _ next c.in_ok-request.ensures
+    c.fields.invariant
 
 pub returns : goal.returns
 returns c =

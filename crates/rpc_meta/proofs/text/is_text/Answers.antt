@@ -6,4 +6,5 @@ pub returns-clause-test : goal.returns-clause-test
 returns-clause-test c = c.is_ok.ensures.value ∙ text_test c.args.bytes.now (λ s. s.now ≡ c.args.bytes.now) _ c.from_utf8.result c.from_utf8.ensures.cases
 
 pub returns-clause-meaning : goal.returns-clause-meaning
-returns-clause-meaning c = text_meaning c.args.bytes.now c.is_ok.result (c.is_ok.ensures.value ∙ text_test c.args.bytes.now (λ s. s.now ≡ c.args.bytes.now) _ c.from_utf8.result c.from_utf8.ensures.cases)
+returns-clause-meaning c =
+    text_meaning c.args.bytes.now c.is_ok.result (c.is_ok.ensures.value ∙ text_test c.args.bytes.now (λ s. s.now ≡ c.args.bytes.now) _ c.from_utf8.result c.from_utf8.ensures.cases)

@@ -17,11 +17,13 @@ spread-requires-clause-spreading c =
 pub returns-then-moment-now-clause-none : goal.returns-then-moment-now-clause-none
 returns-then-moment-now-clause-none c = λ h.
     absurd (reached_some c.least-moment.result (waiting_of (heap_items c.args.heap.now) c.args.chains.now) (heap_items c.spread.new.heap) c.spread.new.chains
-    (subst (λ (m : ℕ). IsFirstMoment (waiting_of (heap_items c.args.heap.now) c.args.chains.now) m) (sym c.least-moment.ensures) (lists_first c.args.base.now (heap_items c.args.heap.now) c.args.chains.now c.requires.settled c.in-Some.list c.in-Some.ensures c.requires.empty))
+    (subst (λ (m : ℕ). IsFirstMoment (waiting_of (heap_items c.args.heap.now) c.args.chains.now) m) (sym c.least-moment.ensures)
+    (lists_first c.args.base.now (heap_items c.args.heap.now) c.args.chains.now c.requires.settled c.in-Some.list c.in-Some.ensures c.requires.empty))
     c.spread.ensures.alike c.spread.ensures.settled h)
 
 pub returns-else-moment-now-clause-none : goal.returns-else-moment-now-clause-none
 returns-else-moment-now-clause-none c = λ h.
     first_later c.args.now c.least-moment.result (waiting_of (heap_items c.args.heap.now) c.args.chains.now)
-    (subst (λ (m : ℕ). IsFirstMoment (waiting_of (heap_items c.args.heap.now) c.args.chains.now) m) (sym c.least-moment.ensures) (lists_first c.args.base.now (heap_items c.args.heap.now) c.args.chains.now c.requires.settled c.in-Some.list c.in-Some.ensures c.requires.empty))
+    (subst (λ (m : ℕ). IsFirstMoment (waiting_of (heap_items c.args.heap.now) c.args.chains.now) m) (sym c.least-moment.ensures)
+    (lists_first c.args.base.now (heap_items c.args.heap.now) c.args.chains.now c.requires.settled c.in-Some.list c.in-Some.ensures c.requires.empty))
     (omega arith)

@@ -10,5 +10,6 @@ returns-then-entry-base-clause-after c = pushed_alike (heap_items c.args.heap.no
 
 pub returns-clause-after : goal.returns-clause-after
 returns-clause-after c =
-    subst (λ (ls : List (List Entry)). AreAlike (c.args.entry ∷ waiting_of (heap_items c.args.heap.now) c.args.chains.now) (waiting_of (heap_items c.args.heap.now) ls)) (sym c.in_ok-insert.ensures.after)
+    subst (λ (ls : List (List Entry)). AreAlike (c.args.entry ∷ waiting_of (heap_items c.args.heap.now) c.args.chains.now) (waiting_of (heap_items c.args.heap.now) ls))
+    (sym c.in_ok-insert.ensures.after)
     (inserted_alike (heap_items c.args.heap.now) c.args.chains.now c.home.result c.args.entry c.home.ensures.some (omega (arith, c.home.ensures.in_lists, c.requires.made)))

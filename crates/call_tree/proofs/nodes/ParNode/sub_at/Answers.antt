@@ -20,9 +20,12 @@ last_up_to-at-requires-clause-first g c =
     subst (λ (fs : List ℕ). get_or fs 0 0 ≤ c.args.to - c.args.node) (sym (c.as_slice-firsts.ensures.value ∙ c.requires.sound.places)) (omega (arith, one, low))
 
 pub returns-clause-at : goal.returns-clause-at
-returns-clause-at g c = at-last c.as_slice-firsts.result.now c.args.self.now.kids.items c.args.node c.args.to c.last_up_to-at.result _ (c.as_slice-firsts.ensures.value ∙ c.requires.sound.places) c.requires.low c.last_up_to-at.ensures refl
+returns-clause-at g c =
+    at-last c.as_slice-firsts.result.now c.args.self.now.kids.items c.args.node c.args.to c.last_up_to-at.result _ (c.as_slice-firsts.ensures.value ∙ c.requires.sound.places) c.requires.low
+    c.last_up_to-at.ensures refl
 
 pub returns-clause-there : goal.returns-clause-there
 returns-clause-there g c =
     at-there c.args.node c.args.to c.args.self.now.kids.items c.last_up_to-at.result _
-    (at-last c.as_slice-firsts.result.now c.args.self.now.kids.items c.args.node c.args.to c.last_up_to-at.result (c.args.node + get_or c.as_slice-firsts.result.now c.last_up_to-at.result 0) (c.as_slice-firsts.ensures.value ∙ c.requires.sound.places) c.requires.low c.last_up_to-at.ensures refl)
+    (at-last c.as_slice-firsts.result.now c.args.self.now.kids.items c.args.node c.args.to c.last_up_to-at.result (c.args.node + get_or c.as_slice-firsts.result.now c.last_up_to-at.result 0)
+    (c.as_slice-firsts.ensures.value ∙ c.requires.sound.places) c.requires.low c.last_up_to-at.ensures refl)

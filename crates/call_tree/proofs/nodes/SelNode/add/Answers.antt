@@ -6,4 +6,7 @@ use Rattle.call_tree.proofs.nodes.SelNode.add.Goals as goal
 
 pub returns-clause-sound : goal.returns-clause-sound
 returns-clause-sound g c =
-    record { places = c.in_ok-push.ensures.items ∙ places-push c.args.self.now.kids.items c.args.tree c.args.self.now.firsts.items c.args.place c.requires.sound.places c.requires.place ∙ sym (ap (λ ss. firsts 1 (states_of ss)) c.in_ok-push-2.ensures.items) }
+    record {
+      places = c.in_ok-push.ensures.items ∙ places-push c.args.self.now.kids.items c.args.tree c.args.self.now.firsts.items c.args.place c.requires.sound.places c.requires.place
+          ∙ sym (ap (λ ss. firsts 1 (states_of ss)) c.in_ok-push-2.ensures.items);
+    }

@@ -22,7 +22,8 @@ pub invariant_of-self : goal.invariant_of-self
 invariant_of-self g c =
     let h : Hits c.args.first c.in-Some.at c.args.self.now c.self.inside.slots.items c.index_mut-cell.result.now = record { same = search rules; at = search rules; read = search rules } in
     let u : c.collect-answer.new.self ≡ collected (version_of c.args.first) c.index_mut-cell.result.now = search rules in
-    let m : is_vacant c.index_mut-cell.result.now ≡ true → is_vacant c.collect-answer.new.self ≡ true = λ v. ap is_vacant u ∙ vacant-collected (version_of c.args.first) c.index_mut-cell.result.now v in
+    let m : is_vacant c.index_mut-cell.result.now ≡ true → is_vacant c.collect-answer.new.self ≡ true =
+    λ v. ap is_vacant u ∙ vacant-collected (version_of c.args.first) c.index_mut-cell.result.now v in
     let put : IsRelisted (is_vacant c.collect-answer.new.self) c.in-Some.at c.self.inside.vacant c.relist.new.vacant = search rules in
     relisted c.in-Some.at c.self.inside.slots.items c.index_mut-cell.result.now c.collect-answer.new.self c.self.inside.vacant c.relist.new.vacant c.self.invariant h.read (within _ _ _ _ _ h) m put
 

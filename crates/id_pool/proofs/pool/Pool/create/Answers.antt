@@ -14,7 +14,9 @@ returns-in_default-clause-answer g c =
 pub returns-in_default-clause-after : goal.returns-in_default-clause-after
 returns-in_default-clause-after g c =
     let w : is_width c.args.range ≡ true = widths c.args.range (omega arith) (omega arith) in
-    sym c.self.view_is ∙ created-full c.args.range c.args.value c.args.self.now c.self.inside.slots.items w c.self.view_is (lowest-none c.self.inside.slots.items c.self.inside.vacant c.self.invariant c.in_default.ensures)
+    sym c.self.view_is
+    ∙ created-full c.args.range c.args.value c.args.self.now c.self.inside.slots.items w c.self.view_is
+    (lowest-none c.self.inside.slots.items c.self.inside.vacant c.self.invariant c.in_default.ensures)
 
 pub index_mut-cell-requires : goal.index_mut-cell-requires
 index_mut-cell-requires g c =
@@ -34,19 +36,23 @@ make_id-requires g c =
 
 pub invariant_of-self : goal.invariant_of-self
 invariant_of-self g c =
-    let k : Takes c.in-Some.slot c.take-first.result c.args.self.now c.self.inside.slots.items c.self.inside.vacant c.index_mut-cell.result.now = record { same = c.self.view_is; listed = c.self.invariant; least = c.in-Some.ensures; read = search rules; was = c.take-first.ensures.first } in
-    taken_listed c.in-Some.slot c.take-first.result c.args.self.now c.self.inside.slots.items c.index_mut-cell.result.now c.take-first.new.self c.self.inside.vacant c.remove.new.self k (ap is_vacant c.take-first.ensures.after) c.remove.ensures.out c.remove.ensures.others
+    let k : Takes c.in-Some.slot c.take-first.result c.args.self.now c.self.inside.slots.items c.self.inside.vacant c.index_mut-cell.result.now =
+    record { same = c.self.view_is; listed = c.self.invariant; least = c.in-Some.ensures; read = search rules; was = c.take-first.ensures.first } in
+    taken_listed c.in-Some.slot c.take-first.result c.args.self.now c.self.inside.slots.items c.index_mut-cell.result.now c.take-first.new.self c.self.inside.vacant c.remove.new.self k
+    (ap is_vacant c.take-first.ensures.after) c.remove.ensures.out c.remove.ensures.others
 
 pub returns-clause-answer : goal.returns-clause-answer
 returns-clause-answer g c =
     let w : is_width c.args.range ≡ true = widths c.args.range (omega arith) (omega arith) in
-    let k : Takes c.in-Some.slot c.take-first.result c.args.self.now c.self.inside.slots.items c.self.inside.vacant c.index_mut-cell.result.now = record { same = c.self.view_is; listed = c.self.invariant; least = c.in-Some.ensures; read = search rules; was = c.take-first.ensures.first } in
+    let k : Takes c.in-Some.slot c.take-first.result c.args.self.now c.self.inside.slots.items c.self.inside.vacant c.index_mut-cell.result.now =
+    record { same = c.self.view_is; listed = c.self.invariant; least = c.in-Some.ensures; read = search rules; was = c.take-first.ensures.first } in
     ap Ok c.make_id.ensures.value ∙ create-taken c.args.range c.args.value c.in-Some.slot c.take-first.result _ _ _ _ w k
 
 pub returns-clause-after : goal.returns-clause-after
 returns-clause-after g c =
     let w : is_width c.args.range ≡ true = widths c.args.range (omega arith) (omega arith) in
-    let k : Takes c.in-Some.slot c.take-first.result c.args.self.now c.self.inside.slots.items c.self.inside.vacant c.index_mut-cell.result.now = record { same = c.self.view_is; listed = c.self.invariant; least = c.in-Some.ensures; read = search rules; was = c.take-first.ensures.first } in
+    let k : Takes c.in-Some.slot c.take-first.result c.args.self.now c.self.inside.slots.items c.self.inside.vacant c.index_mut-cell.result.now =
+    record { same = c.self.view_is; listed = c.self.invariant; least = c.in-Some.ensures; read = search rules; was = c.take-first.ensures.first } in
     created-taken c.args.range c.args.value c.in-Some.slot c.take-first.result _ _ _ _ _ w k c.take-first.ensures.after
 
 pub returns-clause-offsets : goal.returns-clause-offsets

@@ -17,7 +17,8 @@ pub invariant_of-self : goal.invariant_of-self
 invariant_of-self g c =
     let h : Hits c.args.id c.in-Some.at c.args.self.now c.self.inside.slots.items c.index_mut-cell.result.now = record { same = search rules; at = search rules; read = search rules } in
     let u : c.destroy.new.self ≡ destroyed (version_of c.args.id) c.index_mut-cell.result.now = search rules in
-    still_listed c.in-Some.at c.self.inside.slots.items c.index_mut-cell.result.now c.destroy.new.self _ c.self.invariant (within _ _ _ _ _ h) h.read (ap is_vacant u ∙ vacant-destroyed (version_of c.args.id) c.index_mut-cell.result.now)
+    still_listed c.in-Some.at c.self.inside.slots.items c.index_mut-cell.result.now c.destroy.new.self _ c.self.invariant (within _ _ _ _ _ h) h.read
+    (ap is_vacant u ∙ vacant-destroyed (version_of c.args.id) c.index_mut-cell.result.now)
 
 pub returns-clause-answer : goal.returns-clause-answer
 returns-clause-answer g c =

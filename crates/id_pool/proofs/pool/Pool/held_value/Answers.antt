@@ -10,7 +10,8 @@ pub invariant_of-self-lent : goal.invariant_of-self-lent
 invariant_of-self-lent g c w =
     let e : slot_of c.args.id ≡ Some c.in-Some.slot = search rules in
     let h = hits c.args.id c.in-Some.slot c.args.self.now c.self.inside.slots.items c.index_mut.result.now c.self.view_is e c.requires c.index_mut.ensures.value in
-    still_listed c.in-Some.slot c.self.inside.slots.items c.index_mut.result.now (valued w c.index_mut.result.now) _ c.self.invariant (within _ _ _ _ _ h) h.read (vacant-valued w c.index_mut.result.now)
+    still_listed c.in-Some.slot c.self.inside.slots.items c.index_mut.result.now (valued w c.index_mut.result.now) _ c.self.invariant (within _ _ _ _ _ h) h.read
+    (vacant-valued w c.index_mut.result.now)
 
 pub returns : goal.returns
 returns g c =

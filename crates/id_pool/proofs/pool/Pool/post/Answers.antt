@@ -30,13 +30,15 @@ returns-clause-answer g c =
 pub returns-clause-after : goal.returns-clause-after
 returns-clause-after g c =
     let h : Hits c.args.id c.in-Some.at c.args.self.now c.self.inside.slots.items c.index_mut-cell.result.now = record { same = search rules; at = search rules; read = search rules } in
-    let e : posted c.version_of.result c.args.code c.index_mut-cell.result.now ≡ posted (version_of c.args.id) c.args.code c.index_mut-cell.result.now = ap (λ v. posted v c.args.code c.index_mut-cell.result.now) c.version_of.ensures in
+    let e : posted c.version_of.result c.args.code c.index_mut-cell.result.now ≡ posted (version_of c.args.id) c.args.code c.index_mut-cell.result.now =
+    ap (λ v. posted v c.args.code c.index_mut-cell.result.now) c.version_of.ensures in
     on_ok_weaker c.post.result (λ u. hit c.args.id c.in-Some.at _ _ _ _ _ h (u ∙ e)) c.post.ensures.after
 
 pub returns-clause-failed : goal.returns-clause-failed
 returns-clause-failed g c =
     let h : Hits c.args.id c.in-Some.at c.args.self.now c.self.inside.slots.items c.index_mut-cell.result.now = record { same = search rules; at = search rules; read = search rules } in
-    on_err_weaker c.post.result (λ u. ap (λ s. slice_set c.self.inside.slots.items c.in-Some.at s) u ∙ set_read c.in-Some.at c.self.inside.slots.items c.index_mut-cell.result.now h.read ∙ h.same) c.post.ensures.failed
+    on_err_weaker c.post.result (λ u. ap (λ s. slice_set c.self.inside.slots.items c.in-Some.at s) u ∙ set_read c.in-Some.at c.self.inside.slots.items c.index_mut-cell.result.now h.read
+    ∙ h.same) c.post.ensures.failed
 
 pub returns-clause-memory : goal.returns-clause-memory
 returns-clause-memory g c =

@@ -15,5 +15,6 @@ pub returns : goal.returns
 returns c =
     let e : c.end_of-end.result ≡ end_at c.self.inside.ends.items c.args.list = c.end_of-end.ensures in
     let h : 0 < (end_at c.self.inside.ends.items c.args.list).depth = subst (λ (z : End). 0 < z.depth) e (search rules) in
-    let r : c.entry_at.result ≡ (node_at c.self.inside.nodes.items (end_at c.self.inside.ends.items c.args.list).head).entry = c.entry_at.ensures ∙ ap (λ (z : End). (node_at c.self.inside.nodes.items z.head).entry) e in
+    let r : c.entry_at.result ≡ (node_at c.self.inside.nodes.items (end_at c.self.inside.ends.items c.args.list).head).entry =
+    c.entry_at.ensures ∙ ap (λ (z : End). (node_at c.self.inside.nodes.items z.head).entry) e in
     front_told c.self.inside.nodes.items c.self.inside.ends.items c.args.self.now c.self.view_is c.args.list h ∙ ap (λ (x : Entry). x ∷ rest_of (list_at c.args.self.now c.args.list)) (sym r)

@@ -14,4 +14,5 @@ pub returns : goal.returns
 returns c =
     let f : c.args.list < length c.self.inside.ends.items = omega (arith, counted c.self.inside.nodes.items c.self.inside.ends.items c.args.self.now c.self.view_is, c.requires) in
     let e : c.end_of-end.result ≡ end_at c.self.inside.ends.items c.args.list = c.end_of-end.ensures in
-    c.least_from.ensures ∙ ap (λ (z : End). least_at c.self.inside.nodes.items z) e ∙ least_is c.self.inside.nodes.items c.self.inside.ends.items c.args.self.now c.self.view_is c.args.list c.self.invariant.chained f
+    c.least_from.ensures ∙ ap (λ (z : End). least_at c.self.inside.nodes.items z) e
+    ∙ least_is c.self.inside.nodes.items c.self.inside.ends.items c.args.self.now c.self.view_is c.args.list c.self.invariant.chained f

@@ -7,17 +7,26 @@ pub push_node-requires-clause-list : goal.push_node-requires-clause-list
 push_node-requires-clause-list c = omega (arith, counted c.self.inside.nodes.items c.self.inside.ends.items c.args.self.now c.self.view_is, c.requires, c.self.invariant.chained.many)
 
 pub push_node-requires-clause-head : goal.push_node-requires-clause-head
-push_node-requires-clause-head c = head_within c.self.inside.nodes.items c.self.inside.ends.items c.args.self.now c.self.view_is c.args.list c.self.invariant.chained (omega (arith, counted c.self.inside.nodes.items c.self.inside.ends.items c.args.self.now c.self.view_is, c.requires))
+push_node-requires-clause-head c =
+    head_within c.self.inside.nodes.items c.self.inside.ends.items c.args.self.now c.self.view_is c.args.list c.self.invariant.chained
+    (omega (arith, counted c.self.inside.nodes.items c.self.inside.ends.items c.args.self.now c.self.view_is, c.requires))
 
 pub push_node-requires-clause-room : goal.push_node-requires-clause-room
-push_node-requires-clause-room c = depth_room c.self.inside.nodes.items c.self.inside.ends.items c.args.self.now c.self.view_is c.args.list c.self.invariant.chained (omega (arith, counted c.self.inside.nodes.items c.self.inside.ends.items c.args.self.now c.self.view_is, c.requires))
+push_node-requires-clause-room c =
+    depth_room c.self.inside.nodes.items c.self.inside.ends.items c.args.self.now c.self.view_is c.args.list c.self.invariant.chained
+    (omega (arith, counted c.self.inside.nodes.items c.self.inside.ends.items c.args.self.now c.self.view_is, c.requires))
 
 pub invariant_of-self-2 : goal.invariant_of-self-2
 invariant_of-self-2 c = record {
-  chained = rw (c.in_ok-push_node.ensures.nodes, c.in_ok-push_node.ensures.ends) (push_kept c.self.inside.nodes.items c.self.inside.ends.items c.args.self.now c.self.view_is c.args.list c.args.entry c.self.invariant.chained (omega (arith, counted c.self.inside.nodes.items c.self.inside.ends.items c.args.self.now c.self.view_is, c.requires)) c.in_ok-push_node.ensures.few);
-  noted = one_noted_as c.self.inside.ends.items c.push_node.new.ends.items c.args.list _ c.self.inside.used c.mark.new.used c.in_ok-push_node.ensures.ends (omega (arith, counted c.self.inside.nodes.items c.self.inside.ends.items c.args.self.now c.self.view_is, c.requires)) c.self.invariant.noted c.mark.ensures;
+  chained = rw (c.in_ok-push_node.ensures.nodes, c.in_ok-push_node.ensures.ends)
+      (push_kept c.self.inside.nodes.items c.self.inside.ends.items c.args.self.now c.self.view_is c.args.list c.args.entry c.self.invariant.chained
+      (omega (arith, counted c.self.inside.nodes.items c.self.inside.ends.items c.args.self.now c.self.view_is, c.requires)) c.in_ok-push_node.ensures.few);
+  noted = one_noted_as c.self.inside.ends.items c.push_node.new.ends.items c.args.list _ c.self.inside.used c.mark.new.used c.in_ok-push_node.ensures.ends
+      (omega (arith, counted c.self.inside.nodes.items c.self.inside.ends.items c.args.self.now c.self.view_is, c.requires)) c.self.invariant.noted c.mark.ensures;
 }
 
 pub returns-clause-after : goal.returns-clause-after
 returns-clause-after c =
-    rw (c.in_ok-push_node.ensures.nodes, c.in_ok-push_node.ensures.ends) (push_lists c.self.inside.nodes.items c.self.inside.ends.items c.args.self.now c.self.view_is c.args.list c.args.entry c.self.invariant.chained (omega (arith, counted c.self.inside.nodes.items c.self.inside.ends.items c.args.self.now c.self.view_is, c.requires)))
+    rw (c.in_ok-push_node.ensures.nodes, c.in_ok-push_node.ensures.ends)
+    (push_lists c.self.inside.nodes.items c.self.inside.ends.items c.args.self.now c.self.view_is c.args.list c.args.entry c.self.invariant.chained
+    (omega (arith, counted c.self.inside.nodes.items c.self.inside.ends.items c.args.self.now c.self.view_is, c.requires)))
