@@ -75,7 +75,8 @@ module _ {E : Type 0} where
   pending_part v c word qs = let u = view_lifted v c.slot in let x = view_with_list (taking_view (view_after_miss u c.slot word) c.slot qs) [] in
       part_then c.slot v x (view_after_pending v c word qs) (part_with_got (part_with_miss (part_with_out (part_of v c.slot) true) word) ((part_of v c.slot).got ++ reverse (receipts_of qs)))
       (λ p. part_with_out p false)
-      (part_then c.slot v u x (part_with_out (part_of v c.slot) true) (λ p. part_with_got (part_with_miss p word) (p.got ++ reverse (receipts_of qs))) (lifted_part v c.slot) (chain_part u c.slot word qs))
+      (part_then c.slot v u x (part_with_out (part_of v c.slot) true) (λ p. part_with_got (part_with_miss p word) (p.got ++ reverse (receipts_of qs)))
+      (lifted_part v c.slot) (chain_part u c.slot word qs))
       (part_put c.slot x x.seen (part_with_out (part_of x c.slot) false))
 
   -- a destroy

@@ -48,7 +48,14 @@ impl Notes {
 }
 
 /// How many posters there are.
-pub(crate) const POSTERS: u64 = 4;
+const POSTERS: u64 = 4;
+
+/// What the posters tell the holders: how many of them have queued all their errors, and how often one found no free node.
+#[derive(Drop)]
+pub(crate) struct Signs {
+    pub(crate) done: AtomicU64,
+    pub(crate) stuck: AtomicU64,
+}
 
 /// The place that comes after this one in a long walk.
 pub(crate) fn after(place: u32) -> u32 {
@@ -106,6 +113,16 @@ pub(crate) fn settles<R: Wait + Abort>(
 // Lets other threads have some turns.
 fn waits(count: u32) {
     for _ in 0..count {
+        thread::yield_now();
+    }
+}
+
+// Lets other threads have turns until this is more than 0.
+fn waits_for<R: Wait>(rt: &R, count: &AtomicU64) {
+    for _ in rt.forever() {
+        if count.load(Ordering::SeqCst) > 0 {
+            return;
+        }
         thread::yield_now();
     }
 }
@@ -209,7 +226,7 @@ fn destroys<R: Wait + Abort>(
             ids.destroy(pass, hold, book);
             drops(rt, ids, pass, id, notes);
         }
-        _ => panic!(rt; "the owner ends the range"),
+        _ => panic!(rt; "its owner ends the range"),
     }
 }
 
@@ -258,12 +275,55 @@ fn tends<R: Wait + Abort>(
     ends(rt, ids, pass, owner, notes);
 }
 
+// Holds a range until a poster has found no free node.
+fn holds_long<R: Wait + Abort>(
+    rt: &R,
+    ids: &Ids<Book>,
+    pass: &mut Pass<Book>,
+    id: u64,
+    stuck: &AtomicU64,
+    notes: &mut Notes,
+)
+    requires own { IsAtRest ids.now pass.old }
+    ensures own { IsAtRest ids.now pass.new }
+    ensures owners { KeepsOwners pass.old pass.new }
+{
+    match ids.lock(rt, pass, id) {
+        LockEnd::Locked(hold, book) => {
+            waits_for(rt, stuck);
+            let count = settles(rt, ids, pass, hold, book);
+            notes.pendings = notes.pendings.wrapping_add(count);
+        }
+        _ => panic!(rt; "its owner ends the range"),
+    }
+}
+
+// Begins a range, which is held long, and ends it.
+fn starts<R: Wait + Abort>(
+    rt: &R,
+    ids: &Ids<Book>,
+    alloc: Global,
+    pass: &mut Pass<Book>,
+    slot: u32,
+    stuck: &AtomicU64,
+    notes: &mut Notes,
+)
+    requires own { IsAtRest ids.now pass.old }
+    requires slot { slot < ids.now.sizes.slots }
+    ensures own { IsAtRest ids.now pass.new }
+{
+    let owner = begins(rt, ids, pass, slot, Vec::new(alloc));
+    let id = owner.first_id();
+    holds_long(rt, ids, pass, id, stuck, notes);
+    ends(rt, ids, pass, owner, notes);
+}
+
 /// Tends the 16 slots from this one on, again and again, until all posters are done.
 pub(crate) fn holds<R: Wait + Abort>(
     rt: &R,
     ids: &Ids<Book>,
     alloc: Global,
-    done: &AtomicU64,
+    signs: &Signs,
     mut pass: Pass<Book>,
     slot: u32,
 ) -> Notes
@@ -276,6 +336,7 @@ pub(crate) fn holds<R: Wait + Abort>(
         pendings: 0,
         dropped: 0,
     };
+    starts(rt, ids, alloc, &mut pass, slot, &signs.stuck, &mut notes);
     let mut place = slot;
     for _ in rt.forever() {
         tends(
@@ -288,7 +349,7 @@ pub(crate) fn holds<R: Wait + Abort>(
             place,
             &mut notes,
         );
-        if done.load(Ordering::SeqCst) >= POSTERS {
+        if signs.done.load(Ordering::SeqCst) >= POSTERS {
             return notes;
         }
         place = after(place).wrapping_add(7);

@@ -2,7 +2,7 @@
 ghost use Rattle.std.specs.Prelude.{◌≡◌, ◌<◌};
 ghost use Rattle.id_shared.specs.Standing.{IsAtRest};
 
-use crate::crowd_holding_tests::{after, settles};
+use crate::crowd_holding_tests::{Signs, after, settles};
 use crate::post_tests::Book;
 use crate::{Ids, Pass, Receipt, TryPost, halves};
 use id_pool::make_id;
@@ -10,18 +10,17 @@ use id_rule::unpack;
 use std::alloc::Global;
 use std::process::Abort;
 use std::sync::Wait;
-use std::sync::atomic::{AtomicU64, Ordering};
+use std::sync::atomic::Ordering;
 use std::thread;
 
 /// How many errors each poster queues.
 pub(crate) const ERRORS: usize = 25000;
 
-/// What a poster noted: its number, for each of its receipts the first id of the range, and how often no node was free.
+/// What a poster noted: its number, and for each of its receipts the first id of the range.
 #[derive(Drop)]
 pub(crate) struct Sent {
     pub(crate) number: u32,
     pub(crate) firsts: Vec<u64>,
-    pub(crate) without_node: u64,
 }
 
 impl Sent {
@@ -42,6 +41,7 @@ fn posts<R: Wait + Abort>(
     pass: &mut Pass<Book>,
     slot: u32,
     code: u32,
+    signs: &Signs,
     sent: &mut Sent,
 )
     requires own { IsAtRest ids.now pass.old }
@@ -56,7 +56,7 @@ fn posts<R: Wait + Abort>(
         }
         TryPost::Queued(receipt) => sent.note(rt, first, receipt),
         TryPost::NoNode => {
-            sent.without_node = sent.without_node.wrapping_add(1);
+            signs.stuck.fetch_add(1, Ordering::SeqCst);
             thread::yield_now();
         }
         TryPost::Gone(_) => {}
@@ -70,7 +70,7 @@ pub(crate) fn queues<R: Wait + Abort>(
     rt: &R,
     ids: &Ids<Book>,
     alloc: Global,
-    done: &AtomicU64,
+    signs: &Signs,
     mut pass: Pass<Book>,
 ) -> Sent
     requires own { IsAtRest ids.now pass }
@@ -80,11 +80,10 @@ pub(crate) fn queues<R: Wait + Abort>(
     let mut sent = Sent {
         number: pass.number,
         firsts: Vec::new(alloc),
-        without_node: 0,
     };
     for _ in rt.forever() {
         if sent.firsts.len() >= ERRORS {
-            done.fetch_add(1, Ordering::SeqCst);
+            signs.done.fetch_add(1, Ordering::SeqCst);
             return sent;
         }
         place = after(place);
@@ -94,6 +93,7 @@ pub(crate) fn queues<R: Wait + Abort>(
             &mut pass,
             place / 65536 % 64,
             place % 65536,
+            signs,
             &mut sent,
         );
     }

@@ -2,7 +2,7 @@
 ghost use Rattle.std.specs.Prelude.{◌≡◌, ◌<◌, All};
 ghost use Rattle.id_shared.specs.Standing.{IsAtRest};
 
-use crate::crowd_holding_tests::{Line, Notes, holds};
+use crate::crowd_holding_tests::{Line, Notes, Signs, holds};
 use crate::crowd_posting_tests::{ERRORS, Sent, queues};
 use crate::post_tests::Book;
 use crate::tests::next;
@@ -20,7 +20,7 @@ fn two_posters<R: Threads + Wait + Abort + Sync>(
     rt: &R,
     ids: &Ids<Book>,
     alloc: Global,
-    done: &AtomicU64,
+    signs: &Signs,
     a: Pass<Book>,
     b: Pass<Book>,
 ) -> (Sent, Sent)
@@ -31,10 +31,10 @@ fn two_posters<R: Threads + Wait + Abort + Sync>(
         rt,
         move || -> Sent
             requires { IsAtRest ids.now a × (ids.now.sizes.slots ≡ 64) }
-        { queues(rt, ids, alloc, done, a) },
+        { queues(rt, ids, alloc, signs, a) },
         move || -> Sent
             requires { IsAtRest ids.now b × (ids.now.sizes.slots ≡ 64) }
-        { queues(rt, ids, alloc, done, b) },
+        { queues(rt, ids, alloc, signs, b) },
     )
 }
 
@@ -43,7 +43,7 @@ fn two_holders<R: Threads + Wait + Abort + Sync>(
     rt: &R,
     ids: &Ids<Book>,
     alloc: Global,
-    done: &AtomicU64,
+    signs: &Signs,
     a: Pass<Book>,
     b: Pass<Book>,
     slot: u32,
@@ -56,10 +56,10 @@ fn two_holders<R: Threads + Wait + Abort + Sync>(
         rt,
         move || -> Notes
             requires { IsAtRest ids.now a × (ids.now.sizes.slots ≡ 64) × (slot < 33) }
-        { holds(rt, ids, alloc, done, a, slot) },
+        { holds(rt, ids, alloc, signs, a, slot) },
         move || -> Notes
             requires { IsAtRest ids.now b × (ids.now.sizes.slots ≡ 64) × (slot < 33) }
-        { holds(rt, ids, alloc, done, b, slot + 16) },
+        { holds(rt, ids, alloc, signs, b, slot + 16) },
     )
 }
 
@@ -68,7 +68,7 @@ fn four<R: Threads + Wait + Abort + Sync>(
     rt: &R,
     ids: &Ids<Book>,
     alloc: Global,
-    done: &AtomicU64,
+    signs: &Signs,
     a: Pass<Book>,
     b: Pass<Book>,
     c: Pass<Book>,
@@ -83,10 +83,10 @@ fn four<R: Threads + Wait + Abort + Sync>(
         rt,
         move || -> (Sent, Sent)
             requires { IsAtRest ids.now a × IsAtRest ids.now b × (ids.now.sizes.slots ≡ 64) }
-        { two_posters(rt, ids, alloc, done, a, b) },
+        { two_posters(rt, ids, alloc, signs, a, b) },
         move || -> (Notes, Notes)
             requires { IsAtRest ids.now c × IsAtRest ids.now d × (ids.now.sizes.slots ≡ 64) × (slot < 33) }
-        { two_holders(rt, ids, alloc, done, c, d, slot) },
+        { two_holders(rt, ids, alloc, signs, c, d, slot) },
     )
 }
 
@@ -118,7 +118,6 @@ fn checks(rt: &impl Abort, sent: &Sent, a: &(Notes, Notes), b: &(Notes, Notes)) 
         count = count.wrapping_add(counts(rt, sent, notes.lines.as_slice()));
     }
     assert_eq!(rt; (count, sent.firsts.len()), (ERRORS, ERRORS));
-    assert!(rt; sent.without_node > 0);
 }
 
 // Four threads beside four others.
@@ -126,6 +125,7 @@ fn eight<R: Threads + Wait + Abort + Sync>(
     rt: &R,
     ids: &Ids<Book>,
     alloc: Global,
+    signs: &Signs,
     mut passes: Vec<Pass<Book>>,
 ) -> Option<
     (
@@ -136,8 +136,6 @@ fn eight<R: Threads + Wait + Abort + Sync>(
     requires own { All (IsAtRest ids.now) passes.items }
     requires slots { ids.now.sizes.slots ≡ 64 }
 {
-    let done = AtomicU64::new(0);
-    let done = &done;
     let (a, b) = (next(ids, &mut passes)?, next(ids, &mut passes)?);
     let (c, d) = (next(ids, &mut passes)?, next(ids, &mut passes)?);
     let (e, f) = (next(ids, &mut passes)?, next(ids, &mut passes)?);
@@ -146,27 +144,35 @@ fn eight<R: Threads + Wait + Abort + Sync>(
         rt,
         move || -> ((Sent, Sent), (Notes, Notes))
             requires { IsAtRest ids.now a × IsAtRest ids.now b × IsAtRest ids.now c × IsAtRest ids.now d × (ids.now.sizes.slots ≡ 64) }
-        { four(rt, ids, alloc, done, a, b, c, d, 0) },
+        { four(rt, ids, alloc, signs, a, b, c, d, 0) },
         move || -> ((Sent, Sent), (Notes, Notes))
             requires { IsAtRest ids.now e × IsAtRest ids.now f × IsAtRest ids.now g × IsAtRest ids.now h × (ids.now.sizes.slots ≡ 64) }
-        { four(rt, ids, alloc, done, e, f, g, h, 32) },
+        { four(rt, ids, alloc, signs, e, f, g, h, 32) },
     ))
 }
 
 #[test]
 fn eight_threads_account_for_each_error(rt: HostRuntime) -> Result<(), Fail> {
-    let Ok((ids, passes)) = Ids::<Book>::open(rt.alloc(), 64, 8, 4) else {
+    let Ok((ids, passes)) = Ids::<Book>::open(rt.alloc(), 64, 8, 64) else {
         panic!(rt; "no memory")
     };
-    let Some(((first, mine), (second, others))) = eight(&rt, &ids, rt.alloc(), passes) else {
+    let signs = Signs {
+        done: AtomicU64::new(0),
+        stuck: AtomicU64::new(0),
+    };
+    let Some(((first, mine), (second, others))) = eight(&rt, &ids, rt.alloc(), &signs, passes)
+    else {
         panic!(rt; "no pass")
     };
     for sent in [&first.0, &first.1, &second.0, &second.1] {
         checks(&rt, sent, &mine, &others);
     }
+    let (mut pendings, mut dropped) = (0u64, 0u64);
     for notes in [&mine.0, &mine.1, &others.0, &others.1] {
-        assert!(rt; notes.pendings > 0);
-        assert!(rt; notes.dropped > 0);
+        pendings = pendings.wrapping_add(notes.pendings);
+        dropped = dropped.wrapping_add(notes.dropped);
     }
+    assert!(rt; pendings > 0);
+    assert!(rt; dropped > 0);
     Ok(())
 }

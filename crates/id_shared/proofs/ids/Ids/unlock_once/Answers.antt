@@ -38,8 +38,8 @@ unlock_from-requires g c =
           c.hold.view_is (ap (λ z. z.view) view) (ap (λ z. z.table) view) c.requires.own c.requires.hold c.pass.invariant.0 c.lift.ensures.same.0 me;
       value = c.requires.value;
       log = subst (λ (z : Claim). IsGrownSince g.T.Tenant.receipt c.lift.new.seat.me.0 z (g.T.Tenant.log c.args.value)) c.hold.view_is
-          (grown_inside (λ l got. IsGrown g.T.Tenant.receipt l (g.T.Tenant.log c.args.value) got) c.args.pass.now c.args.hold record { slot = k.slot; first = k.first; size = k.size } s.me.0 c.lift.new.seat.me.0
-          c.hold.view_is (ap (λ z. z.view) view) lifted c.requires.log);
+          (grown_inside (λ l got. IsGrown g.T.Tenant.receipt l (g.T.Tenant.log c.args.value) got) c.args.pass.now c.args.hold
+          record { slot = k.slot; first = k.first; size = k.size } s.me.0 c.lift.new.seat.me.0 c.hold.view_is (ap (λ z. z.view) view) lifted c.requires.log);
       list = (
         (scratch_empty c.pass.inside.pending.items c.pass.inside.dropped.items (ap (λ z. z.scratch) view ∙ c.requires.errors)).0,
         omega (arith, deep, all),
