@@ -24,10 +24,9 @@ AreGone zero es = Unit {0}
 AreGone (suc n) [] = ⊥
 AreGone (suc n) (e ∷ es) = (e.1 ≡ None) × AreGone n es
 
--- so many ids wait, none of them among the first so many entries, no id stands twice, and there are at most twice as many entries as ids that wait, and
--- a few more
+-- so many ids wait, none of them among the first so many entries, no id stands twice, and there are at most twice as many entries as ids that wait, and one more
 pub record AreKept (live front : ℕ) (entries : List (ℕ × Option ℕ)) : Type 0 where
   pub count : live ≡ length (waiting entries)
   pub gone : AreGone front entries
   pub once : IsDistinct nat_eq (keys_of entries)
-  pub few : length entries ≤ 2 * live + 33
+  pub few : length entries ≤ 2 * live + 1

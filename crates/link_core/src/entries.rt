@@ -69,12 +69,7 @@ pub fn forget(entries: &mut Entries, front: usize, id: u64) -> usize
     0
 }
 
-/// So many ids that don't wait any more are kept in any case: forgetting them takes time in proportion to the room for
-/// entries, which stays as large as the most ids that ever waited at once need it.
-const SPARE: usize = 16;
-
-/// Forgets the ids that don't wait any more, where they are more than half and more than a few, and answers up to which
-/// place no id waits.
+/// Forgets the ids that don't wait any more, where they are more than half, and answers up to which place no id waits.
 #[tactic(auto, using(crate::proofs::Waiting::same, crate::proofs::Waiting::all_wait))]
 pub fn tidy(entries: &mut Entries, live: usize, front: usize) -> usize
     requires before { AreGone front entries.old.entries }
@@ -82,9 +77,9 @@ pub fn tidy(entries: &mut Entries, live: usize, front: usize) -> usize
     ensures same { waiting entries.new.entries ≡ waiting entries.old.entries }
     ensures gone { AreGone result entries.new.entries }
     ensures once { IsUnique nat_eq entries.new }
-    ensures few { length entries.new.entries ≤ 2 * live + 33 }
+    ensures few { length entries.new.entries ≤ 2 * live + 1 }
 {
-    if live < (entries.len() / 2).saturating_sub(SPARE) {
+    if live < entries.len() / 2 {
         clear_out(entries);
         return 0;
     }

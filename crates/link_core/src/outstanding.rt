@@ -16,8 +16,8 @@ use std::marker::Model;
 #[derive(Drop)]
 pub struct Outstanding {
     entries: Entries,
-    /// How many ids wait. There are at most twice as many entries, and a few more: beyond that the ids that don't wait
-    /// any more are forgotten.
+    /// How many ids wait. There are at most twice as many entries, and one more: beyond that the ids that don't wait any
+    /// more are forgotten.
     live: usize,
     /// No id before this place waits.
     front: usize,
