@@ -73,11 +73,12 @@ impl Outstanding {
         Ok(())
     }
 
-    /// Adds an id behind all others, whether or not it waits already: it waits once then. Where memory runs out it may
-    /// wait no more.
+    /// Adds an id behind all others, whether or not it waits already: it waits once then. Where memory runs out it doesn't
+    /// wait, and the others wait as before.
     #[tactic(auto, using(crate::proofs::Waiting::once, crate::proofs::Waiting::added, crate::proofs::Waiting::gone_more, crate::proofs::Waiting::few, crate::proofs::Waiting::unknown, crate::proofs::Waiting::unchanged))]
     pub fn renew(&mut self, id: u64, call: u32) -> Result<(), NoMemory>
         ensures added { OnOk result (self.new ≡ without id self.old ++ (id, call) ∷ []) }
+        ensures gone { OnErr result (self.new ≡ without id self.old) }
         ensures once { IsEachOnce self.new }
     {
         if self.entries.get_index_of(&id).is_some() {
