@@ -6,6 +6,7 @@ pub mod Counting
 pub mod Ended
 pub mod Endings
 pub mod Joins
+pub mod Knowing
 pub mod Lifting
 pub mod Lists
 pub mod Logs

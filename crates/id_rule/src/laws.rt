@@ -1,5 +1,5 @@
 //! Laws of the rule, each as the contract of a function that does nothing.
-ghost use Rattle.id_rule.specs.Laws.{ErrorsAreAsQueued, OneHolder, OwnedSlotsStay};
+ghost use Rattle.id_rule.specs.Laws.{ErrorsAreAsQueued, JoinsKeep, OneHolder, OwnedSlotsStay, StepsAreNoted};
 
 use crate::tenant::Tenant;
 
@@ -18,4 +18,16 @@ pub fn owned_slots_stay<T: Tenant>()
 /// the same offset, with the same code.
 pub fn errors_are_as_queued<T: Tenant>()
     ensures as_queued { ErrorsAreAsQueued T.log T.first_id T.receipt }
+{}
+
+/// A pass that took in another knows what both knew: words seen, errors, and of each slot the logs, the receipts and what has
+/// ended.
+pub fn joins_keep<T: Tenant>()
+    ensures joins_keep { JoinsKeep T.Entry }
+{}
+
+/// What a step tells its pass stands in the view after it: the word of a load and what it shows ended, a range's log and its
+/// end, an error that was queued or taken.
+pub fn steps_are_noted<T: Tenant>()
+    ensures noted { StepsAreNoted T.Entry }
 {}
