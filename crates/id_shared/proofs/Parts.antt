@@ -84,4 +84,5 @@ module _ {E : Type 0} where
       → HasPart c.slot v (part_with_end (part_of v c.slot) c.first (c.first + c.size) log (out ++ reverse (receipts_of qs))) (view_after_destroy v c log out qs)
   destroyed_part v c log out qs = let i = c.slot in let u = view_lifted v i in
       part_then i v u (view_after_destroy v c log out qs) (part_with_out (part_of v i) true) (λ p. part_with_end p c.first (c.first + c.size) log (out ++ reverse (receipts_of qs)))
-      (part_put i v v.seen (part_with_out (part_of v i) true)) (part_on_top i u (view_after_destroy v c log out qs) (part_with_end (part_of u i) c.first (c.first + c.size) log (out ++ reverse (receipts_of qs))) refl)
+      (part_put i v v.seen (part_with_out (part_of v i) true))
+      (part_on_top i u (view_after_destroy v c log out qs) (part_with_end (part_of u i) c.first (c.first + c.size) log (out ++ reverse (receipts_of qs))) refl)

@@ -131,7 +131,8 @@ steady_split {T} {E} t t' number sent room me me' w same is parts numbers width 
 
 -- a pass that took in another
 pub steady_joined : {T E : Type 0} (slots slots' number sent number' sent' : ℕ) (room room' : Rooms) (me other : Me (Option T) (View E)) → IsSteady {T = T} {E = E} slots me number sent room
-    → IsSteady {T = T} {E = E} slots' other number' sent' room' → slots ≡ slots' → do_clash me.0.parts other.0.parts other.0.parts ≡ false → IsSteady {T = T} {E = E} slots (joined_view me.0 other.0, []) number sent room
+    → IsSteady {T = T} {E = E} slots' other number' sent' room' → slots ≡ slots' → do_clash me.0.parts other.0.parts other.0.parts ≡ false
+    → IsSteady {T = T} {E = E} slots (joined_view me.0 other.0, []) number sent room
 steady_joined {T} {E} slots slots' number sent number' sent' room room' me other st so same none =
     let v = me.0 in let w = other.0 in record {
       hand = ap (λ b. if b then Some (0, 0, 0) else v.hand) none ∙ st.hand;

@@ -48,6 +48,7 @@ impl<T: Tenant> Ids<T> {
         ensures own { IsPassOf self.now pass.new }
         ensures answer { IsUnlocked T.log T.receipt hold value pass.old result pass.new }
     {
+        // Opens the table for the proof, which needs its invariant: this body names no field of it.
         let _ = &self.table;
         let slot = hold.slot;
         self.lift(&mut pass.seat, slot);
@@ -125,6 +126,7 @@ impl<T: Tenant> Ids<T> {
         ensures count { result ≡ length pass.new.scratch }
         ensures answer { IsDestroyed T.log T.receipt hold value pass.old pass.new }
     {
+        // Opens the table for the proof, which needs its invariant: this body names no field of it.
         let _ = &self.table;
         self.lift(&mut pass.seat, hold.slot);
         self.destroy_from(&mut pass.seat, &mut pass.dropped, hold, value);
@@ -213,8 +215,8 @@ const LAST: u64 = 4294966272;
 // The word of a slot whose range was collected: vacant, or retired where the next first version would be past the last.
 pub(crate) fn next_word(first: u32, size: u32) -> u64
     requires size { size < 2 ^ 11 }
-    ensures vacant { first + size ≤ 4294966272 → result ≡ packed_word (first + size) 0 0 0 }
-    ensures retired { 4294966272 < first + size → result ≡ packed_word first 0 5 0 }
+    ensures vacant { first + size ≤ LAST → result ≡ packed_word (first + size) 0 0 0 }
+    ensures retired { LAST < first + size → result ≡ packed_word first 0 5 0 }
 {
     let next = u64::from(first) + u64::from(size);
     if next <= LAST {

@@ -108,6 +108,7 @@ fn destroys_past(
     ensures own { IsPassOf ids.now a.new × IsAtRest ids.now b.new × IsAtRest ids.now c.new }
     ensures dropped { HasDropped a.new }
 {
+    // Opens the table for the proof, which needs its invariant: this body names no field of it.
     let _ = &ids.table;
     ids.lift(&mut a.seat, hold.slot);
     let told = meanwhile(ids, b, c, between);

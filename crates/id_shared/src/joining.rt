@@ -24,7 +24,6 @@ impl<T: Tenant> Ids<T> {
         ensures claims { JoinsClaims pass.old other pass.new }
         ensures accounted { IsAccounted T.receipt pass.new.view }
     {
-        let _ = &self.table;
         let Pass {
             seat,
             words: _,

@@ -46,6 +46,7 @@ impl<T: Tenant> Pass<T> {
     pub fn rests(&self)
         ensures nodes { (self.now.view.hand ≡ None) × (self.now.view.taken ≡ []) }
     {
+        // Opens the pass, so that its invariant is known here: that is the law.
         let _ = &self.seat;
     }
 }

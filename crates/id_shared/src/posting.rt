@@ -117,6 +117,7 @@ impl<T: Tenant> Ids<T> {
         ensures own { IsPassOf self.now pass.new }
         ensures answer { IsQueuedFrom {T = T} self.now.sizes.slots slot word offset code pass.old result pass.new }
     {
+        // Opens the table for the proof, which needs its invariant: this body names no field of it.
         let _ = &self.table;
         let number = pass.sent;
         if number == u64::MAX {

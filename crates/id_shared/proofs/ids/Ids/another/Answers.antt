@@ -16,5 +16,7 @@ split_seat-seat-requires g c =
 
 pub invariant_of-root : goal.invariant_of-root
 invariant_of-root g c =
-    let e = c.split_seat-seat.ensures in let s = c.root.inside.seat in
-    (steady_split s.table_id c.split_seat-seat.new.seat.table_id _ _ _ s.me c.split_seat-seat.new.seat.me (giving_view s.me.0) e.0 e.2 refl refl refl refl refl c.root.invariant.0.hand c.root.invariant.0.taken c.root.invariant.0, c.root.invariant.1)
+    let e = c.split_seat-seat.ensures in let s = c.root.inside.seat in let n = c.split_seat-seat.new.seat in let st = c.root.invariant.0 in (
+      steady_split s.table_id n.table_id _ _ _ s.me n.me (giving_view s.me.0) e.0 e.2 refl refl refl refl refl st.hand st.taken st,
+      c.root.invariant.1,
+    )

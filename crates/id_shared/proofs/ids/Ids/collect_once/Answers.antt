@@ -83,7 +83,8 @@ invariant_of-pass-2 g c =
     let u = view_with mid mid.seen k.slot (part_without_taking (part_of mid k.slot)) in
     let moves = changed_again k.slot s.me.0 mid u p (part_without_taking (part_of mid k.slot)) (changed_with k.slot s.me.0 mid.seen p c.pass.invariant.0.hand c.pass.invariant.0.taken)
     (changed_with k.slot mid mid.seen (part_without_taking (part_of mid k.slot)) c.pass.invariant.0.hand c.pass.invariant.0.taken) in (
-      steady_after s.table_id c.store.new.seat.table_id k.slot _ _ _ s.me c.store.new.seat.me (e.0 ∙ x.0 ∙ load.0) low c.pass.invariant.0 u (part_without_taking (part_of mid k.slot)) _ moves c.pass.invariant.0.sent_is
+      steady_after s.table_id c.store.new.seat.table_id k.slot _ _ _ s.me c.store.new.seat.me (e.0 ∙ x.0 ∙ load.0) low c.pass.invariant.0 u (part_without_taking (part_of mid k.slot)) _ moves
+          c.pass.invariant.0.sent_is
           (subst (λ (z : Part g.row.T-Entry.Denot). IsLaid z.turn) (sym (part_here s.me.0.parts k.slot p)) (c.pass.invariant.0.laid k.slot))
           (e.2.0 ∙ ap (λ m. (view_with m.0 m.0.seen k.slot (part_without_taking (part_of m.0 k.slot)), rest m.1)) me ∙ ap (λ z. (u, z)) c.pass.invariant.0.carried),
       c.pass.invariant.1,

@@ -23,5 +23,8 @@ invariant_of-pass g c =
     c.requires.spot in
     let at = at_claim t.table_id s.table_id t.key c.self.inside.sizes c.args.self.now c.args.pass.now _ k.slot c.self.view_is c.self.invariant c.pass.view_is refl c.requires.own
     (spot_is_low s.table_id.slots _ _ k.slot _ s.me c.pass.invariant.0 (k.first, k.size) has) in
-    let e = c.store.ensures in
-    (steady_part s.table_id c.store.new.seat.table_id k.slot _ _ _ s.me c.store.new.seat.me e.0 at.3 c.pass.invariant.0 s.me.0.seen (part_with_spot (part_of s.me.0 k.slot) None) (c.pass.invariant.0.laid k.slot) e.2, c.pass.invariant.1)
+    let e = c.store.ensures in let st = c.pass.invariant.0 in (
+      steady_part s.table_id c.store.new.seat.table_id k.slot _ _ _ s.me c.store.new.seat.me e.0 at.3 st s.me.0.seen
+          (part_with_spot (part_of s.me.0 k.slot) None) (st.laid k.slot) e.2,
+      c.pass.invariant.1,
+    )

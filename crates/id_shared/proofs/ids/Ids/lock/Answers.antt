@@ -7,8 +7,8 @@ use Rattle.id_shared.proofs.ids.Ids.lock.Goals as goal
 
 pub returns-in-Locked-clause-answer : goal.returns-in-Locked-clause-answer
 returns-in-Locked-clause-answer g c =
-    locked_end g.T.Tenant.log g.T.Tenant.first_id g.T.Tenant.receipt c.args.self.now.sizes.slots c.args.id c.args.pass.now c.loop.pass c.try_lock.new.pass c.in-Locked.hold c.in-Locked.value c.loop.invariant.1
-    c.in-Locked.ensures.answer
+    locked_end g.T.Tenant.log g.T.Tenant.first_id g.T.Tenant.receipt c.args.self.now.sizes.slots c.args.id c.args.pass.now c.loop.pass c.try_lock.new.pass
+    c.in-Locked.hold c.in-Locked.value c.loop.invariant.1 c.in-Locked.ensures.answer
 
 pub returns-in-Locked-clause-stays_gone : goal.returns-in-Locked-clause-stays_gone
 returns-in-Locked-clause-stays_gone g c =
@@ -16,7 +16,8 @@ returns-in-Locked-clause-stays_gone g c =
 
 pub returns-in-Gone-clause-answer : goal.returns-in-Gone-clause-answer
 returns-in-Gone-clause-answer g c =
-    gone_end g.T.Tenant.log g.T.Tenant.first_id g.T.Tenant.receipt c.args.self.now.sizes.slots c.args.id c.args.pass.now c.loop.pass c.try_lock.new.pass c.in-Gone.word c.loop.invariant.1 c.in-Gone.ensures.answer
+    gone_end g.T.Tenant.log g.T.Tenant.first_id g.T.Tenant.receipt c.args.self.now.sizes.slots c.args.id c.args.pass.now c.loop.pass c.try_lock.new.pass
+    c.in-Gone.word c.loop.invariant.1 c.in-Gone.ensures.answer
 
 pub loop-preserved : goal.loop-preserved
 loop-preserved g c =
@@ -31,23 +32,25 @@ loop-preserved g c =
 
 pub returns-in-Locked-clause-claims : goal.returns-in-Locked-clause-claims
 returns-in-Locked-clause-claims g c =
-    lock_claims g.T.Tenant.log g.T.Tenant.first_id g.T.Tenant.receipt c.args.self.now.sizes.slots c.args.id c.args.pass.now c.try_lock.new.pass (lock.Locked c.in-Locked.hold c.in-Locked.value)
-    (returns-in-Locked-clause-answer g c)
+    lock_claims g.T.Tenant.log g.T.Tenant.first_id g.T.Tenant.receipt c.args.self.now.sizes.slots c.args.id c.args.pass.now c.try_lock.new.pass
+    (lock.Locked c.in-Locked.hold c.in-Locked.value) (returns-in-Locked-clause-answer g c)
 
 pub returns-in-Locked-clause-holding : goal.returns-in-Locked-clause-holding
 returns-in-Locked-clause-holding g c =
-    lock_holding g.T.Tenant.log g.T.Tenant.first_id g.T.Tenant.receipt c.args.self.now.sizes.slots c.args.id c.args.pass.now c.try_lock.new.pass (lock.Locked c.in-Locked.hold c.in-Locked.value)
-    (returns-in-Locked-clause-answer g c)
+    lock_holding g.T.Tenant.log g.T.Tenant.first_id g.T.Tenant.receipt c.args.self.now.sizes.slots c.args.id c.args.pass.now c.try_lock.new.pass
+    (lock.Locked c.in-Locked.hold c.in-Locked.value) (returns-in-Locked-clause-answer g c)
 
 pub returns-in-Gone-clause-claims : goal.returns-in-Gone-clause-claims
 returns-in-Gone-clause-claims g c =
-    lock_claims g.T.Tenant.log g.T.Tenant.first_id g.T.Tenant.receipt c.args.self.now.sizes.slots c.args.id c.args.pass.now c.try_lock.new.pass (lock.Gone c.in-Gone.word) (returns-in-Gone-clause-answer g c)
+    lock_claims g.T.Tenant.log g.T.Tenant.first_id g.T.Tenant.receipt c.args.self.now.sizes.slots c.args.id c.args.pass.now c.try_lock.new.pass
+    (lock.Gone c.in-Gone.word) (returns-in-Gone-clause-answer g c)
 
 pub returns-in-Locked-clause-errors : goal.returns-in-Locked-clause-errors
 returns-in-Locked-clause-errors g c =
-    lock_errors g.T.Tenant.log g.T.Tenant.first_id g.T.Tenant.receipt c.args.self.now.sizes.slots c.args.id c.args.pass.now c.try_lock.new.pass (lock.Locked c.in-Locked.hold c.in-Locked.value)
-    (returns-in-Locked-clause-answer g c)
+    lock_errors g.T.Tenant.log g.T.Tenant.first_id g.T.Tenant.receipt c.args.self.now.sizes.slots c.args.id c.args.pass.now c.try_lock.new.pass
+    (lock.Locked c.in-Locked.hold c.in-Locked.value) (returns-in-Locked-clause-answer g c)
 
 pub returns-in-Gone-clause-errors : goal.returns-in-Gone-clause-errors
 returns-in-Gone-clause-errors g c =
-    lock_errors g.T.Tenant.log g.T.Tenant.first_id g.T.Tenant.receipt c.args.self.now.sizes.slots c.args.id c.args.pass.now c.try_lock.new.pass (lock.Gone c.in-Gone.word) (returns-in-Gone-clause-answer g c)
+    lock_errors g.T.Tenant.log g.T.Tenant.first_id g.T.Tenant.receipt c.args.self.now.sizes.slots c.args.id c.args.pass.now c.try_lock.new.pass
+    (lock.Gone c.in-Gone.word) (returns-in-Gone-clause-answer g c)

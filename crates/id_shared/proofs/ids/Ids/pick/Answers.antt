@@ -17,7 +17,8 @@ pick_one-word-requires g c =
         one = omega arith;
         low = subst (λ z. z ≤ ids.sizes.passes * ids.sizes.nodes) (sym is) own.0;
         few = table_few c.self.inside.table.shared.table_id c.self.inside.table.shared.key c.self.inside.sizes ids c.self.view_is c.self.invariant;
-        mine = subst (λ (z : ℕ × List ℕ). HasNumber z.0 z.1) (λ y. (sym (ap (pass_of_node ids.sizes.nodes) is ∙ own.1) y, sym (seeks_numbers ids c.args.number l.count v l.seat.me.0 l.words.items was) y)) look.mine;
+        mine = subst (λ (z : ℕ × List ℕ). HasNumber z.0 z.1)
+            (λ y. (sym (ap (pass_of_node ids.sizes.nodes) is ∙ own.1) y, sym (seeks_numbers ids c.args.number l.count v l.seat.me.0 l.words.items was) y)) look.mine;
         empty = seeks_empty ids c.args.number l.count v l.seat.me.0 l.words.items was look.empty;
       };
     }
