@@ -1,5 +1,5 @@
 -- A seat within a call, while it reads and frees the nodes that it took. This project's own choice.
-use Rattle.std.specs.Prelude.{◌≡◌, ◌+◌, ◌*◌, ◌<◌, ◌≤◌, ◌++◌, ℕ, true, List, [], length, Option, Some}
+use Rattle.std.specs.Prelude.{◌≡◌, ◌+◌, ◌*◌, ◌<◌, ◌≤◌, ◌++◌, ◌∷◌, ℕ, true, List, [], length, Option, Some}
 use Rattle.atomic_table.specs.Seated.{TableId}
 use Rattle.atomic_table.specs.Table.{Me}
 use Rattle.id_rule.specs.declared.view.Queued.{Queued}
@@ -12,7 +12,7 @@ use Rattle.id_rule.specs.Parts.{AreAll, part_of}
 use Rattle.id_rule.specs.Steps.{IsChainOf}
 use Rattle.id_shared.specs.declared.answers.Posted.{Posted}
 use Rattle.id_shared.specs.Standing.{Claim, IdTable}
-use Rattle.id_shared.specs.Views.{errors_of}
+use Rattle.id_shared.specs.Views.{error_of, errors_of}
 
 -- the error is in a node of a table whose passes have so many nodes each, and so many together, and its numbers fit a node's word
 abbrev pub IsError : ℕ → ℕ → Queued → Type 0
@@ -35,6 +35,15 @@ pub record IsDraining {T E : Type 0} (ids : IdTable) (table : TableId) (me : Me 
   pub head : node ≡ head_of me.0.taken
   pub few : ids.sizes.passes * ids.sizes.nodes ≤ 65535
   pub fits : long + length me.0.taken ≤ room
+
+-- the first taken node is free again, its error is noted behind the others, and the next node is this one
+abbrev pub HasDrained : {T E : Type 0} → Me (Option T) (View E) → List Posted → ℕ → Me (Option T) (View E) → List Posted → Type 0
+HasDrained {T} {E} me list next me' list' = (q : Queued)
+    × ((qs : List Queued)
+    × (me.0.taken ≡ q ∷ qs)
+    × (me' ≡ (view_with_list me.0 qs, me.1))
+    × (list' ≡ list ++ error_of q ∷ [])
+    × (next ≡ head_of qs))
 
 -- the seat took the chain of the Hold's slot, and noted its errors; where it had seen that some wait, there is one at least
 abbrev pub HasTakenErrors : {T E : Type 0} → (E → Option Receipt) → Claim → Me (Option T) (View E) → List Posted → Me (Option T) (View E) → List Posted → Type 0

@@ -1,7 +1,7 @@
 -- A seat within a call, while it looks for a free node of its pass and pushes it. This project's own choice.
 use Rattle.std.specs.Prelude.{◌≡◌, ◌≢◌, ◌*◌, ◌<◌, ◌≤◌, ◌++◌, ◌∷◌, ℕ, List, [], length, Option, Some, None}
 use Rattle.atomic_table.specs.Seated.{TableId}
-use Rattle.rpc_model.specs.Gone.{code_in, range_in}
+use Rattle.rpc_model.specs.Gone.{code_in, first_in, range_in}
 use Rattle.id_rule.specs.Changes.{view_after_load, view_with_seen, view_with_hand, pushing_view}
 use Rattle.id_rule.specs.declared.view.Notice.{Notice}
 use Rattle.id_rule.specs.declared.view.View.{View}
@@ -57,6 +57,11 @@ pub record IsPushing {E : Type 0} (ids : IdTable) (table : TableId) (v : View E)
   pub next : number ≡ v.sent
   pub home : own_number v.numbers ≡ pass_of_node ids.sizes.nodes node
   pub own : HasNumber (own_number v.numbers) v.numbers
+
+-- the error with this offset and code, queued to the range in the slot's word by the pass with this number, under its next receipt
+abbrev pub notice_at : ℕ → ℕ → ℕ → ℕ → ℕ → ℕ → Notice
+notice_at slot word offset code pass number =
+    record { slot = slot; first = first_in word; offset = offset; code = code; receipt = record { pass = pass; number = number } }
 
 -- the exchange found the word, and the error waits, or another, and the node is free again
 abbrev pub HasPushed : {E : Type 0} → ℕ → ℕ → Notice → View E → ℕ → View E → Type 0

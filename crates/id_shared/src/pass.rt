@@ -29,7 +29,8 @@ impl<T: Tenant> Model for Pass<T> {
 
     ghost view = { λ p. record { table = p.seat.table_id; view = p.seat.me.0; words = p.words.items; scratch = reverse p.pending.items ++ reverse p.dropped.items; holder = p.holder } };
 
-    ghost invariant = { λ p. IsSteady p.seat.table_id.slots p.seat.me p.number p.sent record { words = vec_capacity p.words; pending = vec_capacity p.pending; dropped = vec_capacity p.dropped } × IsScratch p.holder p.pending.items p.dropped.items };
+    ghost invariant = { λ p. IsSteady p.seat.table_id.slots p.seat.me p.number p.sent record { words = vec_capacity p.words; pending = vec_capacity p.pending; dropped = vec_capacity p.dropped }
+        × IsScratch p.holder p.pending.items p.dropped.items };
 }
 
 impl<T: Tenant> Pass<T> {

@@ -5,7 +5,7 @@ ghost use Rattle.id_rule.specs.Nodes.{node_word, word_at};
 ghost use Rattle.id_rule.specs.Parts.{own_number};
 ghost use Rattle.id_shared.specs.Answers.{HasSeenEnd};
 ghost use Rattle.id_shared.specs.Claims.{HasTriedPost, KeepsClaims, KeepsErrors};
-ghost use Rattle.id_shared.specs.Picking.{HasPicked, HasPickedFirst, HasPushed, IsLooking, IsPicking, IsPushing};
+ghost use Rattle.id_shared.specs.Picking.{HasPicked, HasPickedFirst, HasPushed, IsLooking, IsPicking, IsPushing, notice_at};
 ghost use Rattle.id_shared.specs.Posts.{IsGonePost, IsPostedFrom, IsQueuedFrom, IsTriedPost};
 ghost use Rattle.id_shared.specs.Standing.{IsPassOf};
 
@@ -78,7 +78,7 @@ impl<T: Tenant> Ids<T> {
     ) -> u64
         requires pushing { IsPushing self.now seat.old.table_id seat.old.me.0 node slot word offset code number }
         ensures same { (seat.new.table_id ≡ seat.old.table_id) × (seat.new.id ≡ seat.old.id) × (seat.new.me.1 ≡ seat.old.me.1) }
-        ensures pushed { HasPushed slot word record { slot = slot; first = first_in word; offset = offset; code = code; receipt = record { pass = own_number seat.old.me.0.numbers; number = number } } seat.old.me.0 result seat.new.me.0 }
+        ensures pushed { HasPushed slot word (notice_at slot word offset code (own_number seat.old.me.0.numbers) number) seat.old.me.0 result seat.new.me.0 }
     {
         let place = self.place_of(node);
         let parts = unpack(word);

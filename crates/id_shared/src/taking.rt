@@ -1,14 +1,12 @@
 //! Taking the errors that wait from a held slot, and handing them out.
-ghost use Rattle.std.specs.Prelude.{◌≡◌, ◌<◌, ◌≤◌, ◌+◌, ◌*◌, ◌++◌, ◌∷◌, [], None, Some, false, vec_capacity, vec_len, List, ℕ};
-ghost use Rattle.atomic_table.specs.Table.{rest};
+ghost use Rattle.std.specs.Prelude.{◌≡◌, ◌<◌, ◌≤◌, ◌+◌, ◌*◌, ◌++◌, [], None, Some, vec_capacity, vec_len};
 ghost use Rattle.id_rule.specs.Changes.{view_with_list};
-ghost use Rattle.id_rule.specs.declared.view.Queued.{Queued};
-ghost use Rattle.id_rule.specs.Nodes.{head_of, word_at};
+ghost use Rattle.id_rule.specs.Nodes.{word_at};
 ghost use Rattle.id_rule.specs.Parts.{part_of};
 ghost use Rattle.id_shared.specs.Answers.{HasNext};
-ghost use Rattle.id_shared.specs.Draining.{IsDraining, IsSeatOf, HasTakenErrors};
+ghost use Rattle.id_shared.specs.Draining.{HasDrained, IsDraining, IsSeatOf, HasTakenErrors};
 ghost use Rattle.id_shared.specs.Standing.{IsPassOf, HasHold, HasErrorsOf, HasDropped};
-ghost use Rattle.id_shared.specs.Views.{error_of, errors_of};
+ghost use Rattle.id_shared.specs.Views.{errors_of};
 
 use crate::answers::Posted;
 use crate::claims::Hold;
@@ -39,7 +37,7 @@ impl<T: Tenant> Ids<T> {
         requires draining { IsDraining self.now seat.old.table_id seat.old.me node (vec_len list.old) (vec_capacity list.old) }
         requires node { 1 ≤ node }
         ensures same { (seat.new.table_id ≡ seat.old.table_id) × (seat.new.id ≡ seat.old.id) × (vec_capacity list.new ≡ vec_capacity list.old) }
-        ensures drained { (q : Queued) × ((qs : List Queued) × (seat.old.me.0.taken ≡ q ∷ qs) × (seat.new.me ≡ (view_with_list seat.old.me.0 qs, seat.old.me.1)) × (list.new.items ≡ list.old.items ++ error_of q ∷ []) × (result ≡ head_of qs)) }
+        ensures drained { HasDrained seat.old.me list.old.items result seat.new.me list.new.items }
     {
         let place = self.place_of(node);
         let word = self.table.shared.load::<Read>(seat, place as usize);
