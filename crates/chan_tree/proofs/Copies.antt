@@ -2,7 +2,7 @@
 use Rattle.std.proofs.Common.{◌≡◌, ℕ, zero, suc, ◌+◌, ◌<◌, ◌≤◌, List, [], ◌∷◌, length, get_or, drop, arith, refl, add-one}
 use Rattle.std.proofs.Math.Seq.{drop-cons}
 use Rattle.rpc_model.specs.Plan.{Plan}
-use Rattle.rpc_model.specs.Versions.{nodes, nodes_of, or_leaf, leaf_at, leaf_at_of}
+use Rattle.rpc_model.specs.Versions.{nodes, nodes_of}
 use Rattle.chan_tree.specs.Shown.{plans_of}
 
 module _ {M G : Type 0} where
@@ -13,7 +13,3 @@ module _ {M G : Type 0} where
 
   pub nodes-drop : (ts : List (Plan M G)) (i : ℕ) (d : Plan M G) → i < length ts → nodes_of (plans_of (drop i ts)) ≡ nodes (get_or ts i d) + nodes_of (plans_of (drop (i + 1) ts))
   nodes-drop ts i d less = rw (add-one, drop-cons ts i d less) refl
-
-  pub leaf-drop : (ts : List (Plan M G)) (i : ℕ) (d : Plan M G) (node wanted : ℕ) → i < length ts
-      → leaf_at_of node (plans_of (drop i ts)) wanted ≡ or_leaf (leaf_at node (get_or ts i d) wanted) (leaf_at_of (node + nodes (get_or ts i d)) (plans_of (drop (i + 1) ts)) wanted)
-  leaf-drop ts i d node wanted less = rw (add-one, drop-cons ts i d less) refl

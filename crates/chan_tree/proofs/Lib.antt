@@ -6,6 +6,7 @@ pub mod Built
 pub mod Copies
 mod Rising
 pub mod Tables
+pub mod Leaves
 pub mod Offsets
 pub mod Judged
 pub mod Sizes

@@ -239,7 +239,7 @@ pub first-is : (first : ℕ) (counts : List ℕ) → 1 ≤ length counts → get
 first-is first [] some = absurd (omega (arith, some))
 first-is first (c ∷ counts) some = refl
 
-before_or_not : (a b : ℕ) → (a < b) ⊎ (b ≤ a)
+pub before_or_not : (a b : ℕ) → (a < b) ⊎ (b ≤ a)
 before_or_not a b = by (nat_lt a b) refl
   where
     by : (v : Bool) → nat_lt a b ≡ v → (a < b) ⊎ (b ≤ a)

@@ -1,8 +1,9 @@
--- The leaves of a plan as three lists: their numbers, the places of their first attempts, and how many attempts each may issue.
-use Rattle.std.specs.Prelude.{ℕ, ◌+◌, ◌<◌, ◌≤◌, List, [], ◌∷◌, ◌++◌, length, get_or}
+-- The leaves of a plan as four lists: their numbers, the places of their first attempts, how many attempts each may issue, and their channels.
+use Rattle.std.specs.Prelude.{ℕ, ◌+◌, ◌<◌, ◌≤◌, ◌==◌, List, [], ◌∷◌, ◌++◌, length, get_or, Option, None, Some, if◌then◌else◌}
+use Rattle.rpc_model.specs.declared.chan.LeafChan.{LeafChan}
 use Rattle.rpc_model.specs.declared.meaning.Meaning.{Meaning}
 use Rattle.rpc_model.specs.Plan.{Plan, leaf_plan, par_plan, sel_plan, Plans, last_plan, plan_then}
-use Rattle.rpc_model.specs.Versions.{nodes, leaf_versions}
+use Rattle.rpc_model.specs.Versions.{nodes, leaf_versions, or_leaf}
 
 -- the places of the first attempts, where the first leaf's is this
 abbrev pub firsts_from : ℕ → List ℕ → List ℕ
@@ -14,6 +15,12 @@ abbrev pub attempts_by : List ℕ → List ℕ → List Meaning
 attempts_by [] counts = []
 attempts_by (node ∷ nodes) [] = []
 attempts_by (node ∷ nodes) (count ∷ counts) = leaf_versions node 0 count ++ attempts_by nodes counts
+
+-- the first leaf of this number among leaves with these numbers and channels
+abbrev pub leaf_by : List ℕ → List LeafChan → ℕ → Option LeafChan
+leaf_by [] chans wanted = None
+leaf_by (node ∷ nodes) [] wanted = None
+leaf_by (node ∷ nodes) (chan ∷ chans) wanted = or_leaf (if node == wanted then Some chan else None) (leaf_by nodes chans wanted)
 
 module _ {M G : Type 0} where
   abbrev mutual
@@ -35,6 +42,16 @@ module _ {M G : Type 0} where
     pub leaf_counts_of : Plans M G → List ℕ
     leaf_counts_of last_plan = []
     leaf_counts_of (plan_then plan plans) = leaf_counts plan ++ leaf_counts_of plans
+
+  abbrev mutual
+    pub leaf_chans : Plan M G → List LeafChan
+    leaf_chans (leaf_plan leaf) = leaf ∷ []
+    leaf_chans (par_plan rule plans) = leaf_chans_of plans
+    leaf_chans (sel_plan timeout plans) = leaf_chans_of plans
+
+    pub leaf_chans_of : Plans M G → List LeafChan
+    leaf_chans_of last_plan = []
+    leaf_chans_of (plan_then plan plans) = leaf_chans plan ++ leaf_chans_of plans
 
 -- the numbers together
 abbrev pub total : List ℕ → ℕ

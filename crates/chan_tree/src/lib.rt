@@ -2,7 +2,6 @@
 #![tactic(auto)]
 
 mod building;
-mod leaves;
 mod measuring;
 mod places;
 mod planning;

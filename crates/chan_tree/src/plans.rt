@@ -3,13 +3,13 @@ ghost use Rattle.std.specs.Prelude.{◌≡◌, ℕ, ◌<◌, ◌≤◌, Option, 
 ghost use Rattle.rpc_model.specs.Versions as versions;
 ghost use Rattle.rpc_model.specs.declared.meaning.Meaning.TheVariants as meaning;
 
-use crate::leaves::leaf_in;
-use crate::table::{Table, add_tree, attempt_at, place_of};
+use crate::table::{Table, add_tree, attempt_at, leaf_of, place_of};
 use crate::tree::PlanTree;
 use rpc_base::NoMemory;
 use rpc_model::{LeafChan, Meaning};
 use std::alloc::Global;
 use std::marker::Model;
+use std::sync::Arc;
 
 /// The plan of a call. Its range of ids has one version for each node and one for each attempt that a leaf may issue.
 #[derive(Drop)]
@@ -20,6 +20,7 @@ pub struct Plan<M, G> {
     leaves: Vec<u32>,
     firsts: Vec<u32>,
     counts: Vec<u32>,
+    chans: Vec<Arc<LeafChan>>,
 }
 
 impl<M, G> Model for Plan<M, G> {
@@ -53,6 +54,7 @@ pub(crate) fn tabled<M: Drop, G: Drop>(
         leaves: Vec::new(alloc),
         firsts: Vec::new(alloc),
         counts: Vec::new(alloc),
+        chans: Vec::new(alloc),
     };
     add_tree(&tree, &mut table)?;
     let Table {
@@ -61,6 +63,7 @@ pub(crate) fn tabled<M: Drop, G: Drop>(
         leaves,
         firsts,
         counts,
+        chans,
     } = table;
     Ok(Plan {
         tree,
@@ -69,6 +72,7 @@ pub(crate) fn tabled<M: Drop, G: Drop>(
         leaves,
         firsts,
         counts,
+        chans,
     })
 }
 
@@ -119,12 +123,12 @@ impl<M, G> Plan<M, G> {
         Some(self.nodes + place)
     }
 
+    #[tactic(auto, using(crate::proofs::Leaves::leaf_is, crate::proofs::Leaves::same_chans, crate::proofs::Offsets::leaves_rise))]
     /// The leaf of this number. None exactly where the node of this number isn't a leaf.
     pub fn leaf(&self, node: u32) -> Option<&LeafChan>
         ensures { option_map (λ l. l.now) result ≡ versions.leaf_at 0 self.now node }
     {
-        let mut from = 0;
-        leaf_in(&self.tree, &mut from, node)
+        leaf_of(self.leaves.as_slice(), self.chans.as_slice(), node)
     }
 
     /// What the version at an offset is of: none exactly where the offset isn't below the width.

@@ -1,15 +1,18 @@
 //! The leaves of a plan in a table, by which offsets are found without a list of versions.
 
-ghost use Rattle.std.specs.Prelude.{◌≡◌, ℕ, ◌+◌, ◌≤◌, ◌++◌, OnOk};
+ghost use Rattle.std.specs.Arc.{arc_value};
+ghost use Rattle.std.specs.Prelude.{◌≡◌, ℕ, ◌+◌, ◌≤◌, ◌++◌, OnOk, map};
 ghost use Rattle.rpc_model.specs.Versions as versions;
 ghost use Rattle.chan_tree.specs.Table as table;
 ghost use Rattle.chan_tree.specs.Shown.{plans_of};
 
 use crate::tree::{PlanNode, PlanTree};
 use rpc_base::NoMemory;
+use rpc_model::LeafChan;
+use std::sync::Arc;
 
-/// The leaves of a plan, in preorder: three lists of the same length.
-#[derive(Debug, Drop)]
+/// The leaves of a plan, in preorder: four lists of the same length.
+#[derive(Drop)]
 pub struct Table {
     /// How many nodes were counted.
     pub nodes: u32,
@@ -21,6 +24,8 @@ pub struct Table {
     pub firsts: Vec<u32>,
     /// How many attempts each may issue.
     pub counts: Vec<u32>,
+    /// Their channels, which the tree shares.
+    pub chans: Vec<Arc<LeafChan>>,
 }
 
 /// Adds the leaves of a tree behind those that were counted.
@@ -33,6 +38,7 @@ pub fn add_tree<M, G>(tree: &PlanTree<M, G>, to: &mut Table) -> Result<(), NoMem
     ensures leaves { OnOk result (to.new.leaves.items ≡ to.old.leaves.items ++ table.leaf_nodes to.old.nodes tree.now) }
     ensures firsts { OnOk result (to.new.firsts.items ≡ to.old.firsts.items ++ table.firsts_from to.old.attempts (table.leaf_counts tree.now)) }
     ensures counts { OnOk result (to.new.counts.items ≡ to.old.counts.items ++ table.leaf_counts tree.now) }
+    ensures chans { OnOk result (map arc_value to.new.chans.items ≡ map arc_value to.old.chans.items ++ table.leaf_chans tree.now) }
 {
     match &tree.node {
         PlanNode::Leaf(leaf) => {
@@ -40,6 +46,7 @@ pub fn add_tree<M, G>(tree: &PlanTree<M, G>, to: &mut Table) -> Result<(), NoMem
             to.leaves.push(to.nodes)?;
             to.firsts.push(to.attempts)?;
             to.counts.push(count)?;
+            to.chans.push(leaf.clone()?)?;
             to.nodes += 1;
             to.attempts += count;
             Ok(())
@@ -67,6 +74,7 @@ fn add_trees<M, G>(trees: &[PlanTree<M, G>], to: &mut Table) -> Result<(), NoMem
     ensures leaves { OnOk result (to.new.leaves.items ≡ to.old.leaves.items ++ table.leaf_nodes_of to.old.nodes (plans_of trees.now)) }
     ensures firsts { OnOk result (to.new.firsts.items ≡ to.old.firsts.items ++ table.firsts_from to.old.attempts (table.leaf_counts_of (plans_of trees.now))) }
     ensures counts { OnOk result (to.new.counts.items ≡ to.old.counts.items ++ table.leaf_counts_of (plans_of trees.now)) }
+    ensures chans { OnOk result (map arc_value to.new.chans.items ≡ map arc_value to.old.chans.items ++ table.leaf_chans_of (plans_of trees.now)) }
 {
     let Some((tree, rest)) = trees.split_first() else {
         return Ok(());
@@ -78,6 +86,7 @@ fn add_trees<M, G>(trees: &[PlanTree<M, G>], to: &mut Table) -> Result<(), NoMem
 
 ghost use Rattle.std.specs.Prelude.{◌<◌, length, position, slice_get, Option, None, Some};
 ghost use Rattle.std.specs.List.{IsDistinct};
+ghost use Rattle.std.specs.Option.{option_map};
 ghost use Rattle.rpc_model.specs.declared.meaning.Meaning.TheVariants.{Attempt};
 
 use crate::places::last_up_to;
@@ -106,6 +115,18 @@ pub fn place_of(
                 None
             }
         }
+    }
+}
+
+/// The channel of the leaf of this number, from the leaves' numbers and their channels.
+pub fn leaf_of<'a>(leaves: &[u32], chans: &'a [Arc<LeafChan>], node: u32) -> Option<&'a LeafChan>
+    requires rising { table.IsRising leaves.now }
+    requires same { length leaves.now ≡ length chans.now }
+    ensures { option_map (λ l. l.now) result ≡ table.leaf_by leaves.now (map arc_value chans.now) node }
+{
+    match leaves.binary_search(&node) {
+        Err(_behind) => None,
+        Ok(at) => Some(&*chans[at]),
     }
 }
 
