@@ -256,11 +256,11 @@ fn start_sub<M: Mapper + Copy, G: Merger + Copy>(
     ensures grown { OnOk result (let run = sub_run (kinds_of M.answer G.answer) is_open number plan.now call request moment in IsGrown out.old out.new run.sends run.marks) }
 {
     let Some(request) = request else {
-        let tree = waiting(alloc, plan)?;
+        let tree = waiting(plan)?;
         return Ok(tree);
     };
     if !is_open {
-        let tree = waiting(alloc, plan)?;
+        let tree = waiting(plan)?;
         return Ok(tree);
     }
     let tree = start(alloc, plan, request, number, call, moment, out)?;
@@ -268,10 +268,10 @@ fn start_sub<M: Mapper + Copy, G: Merger + Copy>(
 }
 
 /// A node that waits.
-fn waiting<M: Copy, G: Copy>(alloc: Global, plan: &PlanTree<M, G>) -> Result<Tree<M, G>, NoMemory>
+fn waiting<M: Copy, G: Copy>(plan: &PlanTree<M, G>) -> Result<Tree<M, G>, NoMemory>
     ensures { IfOk result (λ tree. tree ≡ state.waits plan.now) }
 {
     Ok(Tree {
-        node: Node::Waits(plan.copy(alloc)?),
+        node: Node::Waits(plan.copy()?),
     })
 }

@@ -6,7 +6,7 @@ ghost use Rattle.rpc_model.specs.Plan as spec;
 ghost use Rattle.rpc_model.specs.Plan.{subs_of, tries, copies, servers_of};
 ghost use Rattle.chan_tree.specs.Sound.{AreBefore, IsSound, AreSound};
 ghost use Rattle.chan_tree.specs.Measures.{numbers_of};
-ghost use Rattle.chan_tree.specs.Shown.{append_plans, rule_of as rule_shown, IsPlanOf, ArePlansOf};
+ghost use Rattle.chan_tree.specs.Shown.{append_plans, plan_of as plan_shown, rule_of as rule_shown, IsPlanOf, ArePlansOf};
 
 use crate::measuring::try_at;
 use crate::tree::{PlanNode, PlanTree, Rule};
@@ -30,29 +30,21 @@ pub fn build<M: Copy, G: Copy>(
     match &chans[number as usize] {
         Chan::Leaf(leaf) => {
             let leaf = shared_leaf(alloc, leaf)?;
-            Ok(PlanTree {
-                node: PlanNode::Leaf(leaf),
-            })
+            Ok(tree_of(alloc, PlanNode::Leaf(leaf))?)
         }
         Chan::Par(par) => {
             let rule = rule_of(alloc, par)?;
             let kids = build_subs(alloc, chans, number, par.subs.list(), call)?;
-            Ok(PlanTree {
-                node: PlanNode::Par(rule, kids),
-            })
+            Ok(tree_of(alloc, PlanNode::Par(rule, kids))?)
         }
         Chan::Sel(sel) => {
             let kids = build_tries(alloc, chans, number, sel, call)?;
-            Ok(PlanTree {
-                node: PlanNode::Sel(sel.timeout, kids),
-            })
+            Ok(tree_of(alloc, PlanNode::Sel(sel.timeout, kids))?)
         }
         Chan::Part(part) => {
             let rule = part_rule(alloc, part)?;
             let kids = build_parts(alloc, part)?;
-            Ok(PlanTree {
-                node: PlanNode::Par(rule, kids),
-            })
+            Ok(tree_of(alloc, PlanNode::Par(rule, kids))?)
         }
     }
 }
@@ -71,7 +63,7 @@ fn build_subs<M: Copy, G: Copy>(
     requires before { AreBefore number (numbers_of subs.now) }
     ensures kids { IfOk result (λ kids. ArePlansOf chans.now call (numbers_of subs.now) (plans_shown kids.items)) }
 {
-    let mut kids = Vec::new(alloc);
+    let mut kids = Vec::with_capacity(alloc, subs.len())?;
     for sub in subs {
         kids.push(build(alloc, chans, sub.chan, call)?)?;
     }
@@ -97,7 +89,7 @@ fn build_tries<M: Copy, G: Copy>(
 {
     let subs = sel.subs.list();
     let count = u64::from(sel.retry) + 1;
-    let mut kids = Vec::new(alloc);
+    let mut kids = Vec::with_capacity(alloc, count as usize)?;
     let mut at = 0u64;
     while at < count {
         let number = try_at(subs, call, at);
@@ -105,6 +97,18 @@ fn build_tries<M: Copy, G: Copy>(
         at += 1;
     }
     Ok(kids)
+}
+
+/// The tree of a node.
+fn tree_of<M: Drop, G: Drop>(
+    alloc: Global,
+    node: PlanNode<M, G>,
+) -> Result<PlanTree<M, G>, NoMemory>
+    ensures { IfOk result (λ tree. tree ≡ plan_shown node) }
+{
+    Ok(PlanTree {
+        node: Arc::new(alloc, node)?,
+    })
 }
 
 /// A copy of a plain channel, which the copies of a plan share.
@@ -123,8 +127,9 @@ fn shared_leaf(alloc: Global, leaf: &LeafChan) -> Result<Arc<LeafChan>, NoMemory
 fn rule_of<M: Copy, G: Copy>(alloc: Global, par: &ParChan<M, G>) -> Result<Rule<M, G>, NoMemory>
     ensures { IfOk result (λ rule. rule_shown rule ≡ spec.rule_of par.now) }
 {
-    let mut maps = Vec::new(alloc);
-    let mut merges = Vec::new(alloc);
+    let count = par.subs.list().len();
+    let mut maps = Vec::with_capacity(alloc, count)?;
+    let mut merges = Vec::with_capacity(alloc, count)?;
     for sub in par.subs.list() {
         maps.push(sub.map)?;
         merges.push(sub.merge)?;
@@ -154,7 +159,7 @@ fn part_rule<M: Copy, G: Copy>(alloc: Global, part: &PartChan<M, G>) -> Result<R
 fn copied<X: Copy>(alloc: Global, count: u32, x: X) -> Result<Vec<X>, NoMemory>
     ensures { IfOk result (λ xs. xs.items ≡ copies count x) }
 {
-    let mut xs = Vec::new(alloc);
+    let mut xs = Vec::with_capacity(alloc, count as usize)?;
     let mut left = count;
     while left > 0 {
         xs.push(x)?;
@@ -171,14 +176,12 @@ fn build_parts<M: Copy, G: Copy>(
 ) -> Result<Vec<PlanTree<M, G>>, NoMemory>
     ensures { IfOk result (λ kids. plans_shown kids.items ≡ spec.part_plans part.now 0 part.now.parts) }
 {
-    let mut kids = Vec::new(alloc);
     let parts = part.parts;
+    let mut kids = Vec::with_capacity(alloc, parts as usize)?;
     let mut at = 0u32;
     while at < parts {
         let leaf = Arc::new(alloc, part_leaf(alloc, part, at)?)?;
-        kids.push(PlanTree {
-            node: PlanNode::Leaf(leaf),
-        })?;
+        kids.push(tree_of(alloc, PlanNode::Leaf(leaf))?)?;
         at += 1;
     }
     Ok(kids)

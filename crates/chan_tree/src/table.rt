@@ -40,7 +40,7 @@ pub fn add_tree<M, G>(tree: &PlanTree<M, G>, to: &mut Table) -> Result<(), NoMem
     ensures counts { OnOk result (to.new.counts.items ≡ to.old.counts.items ++ table.leaf_counts tree.now) }
     ensures chans { OnOk result (map arc_value to.new.chans.items ≡ map arc_value to.old.chans.items ++ table.leaf_chans tree.now) }
 {
-    match &tree.node {
+    match tree.node() {
         PlanNode::Leaf(leaf) => {
             let count = leaf.retry + 1;
             to.leaves.push(to.nodes)?;

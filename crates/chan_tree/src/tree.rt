@@ -1,18 +1,17 @@
 ghost use Rattle.std.specs.Prelude.{◌≡◌, ◌^◌, ◌<◌, IfOk};
 ghost use Rattle.rpc_model.specs.Versions as versions;
-ghost use Rattle.chan_tree.specs.Shown.{plan_of, plans_of, rule_of};
+ghost use Rattle.chan_tree.specs.Shown.{plan_of, plans_of};
 
 use rpc_base::{List, NoMemory};
 use rpc_model::LeafChan;
-use std::alloc::Global;
 use std::marker::Model;
 use std::sync::Arc;
 
-/// The tree of a plan's nodes. It is seen as the plan itself.
+/// The tree of a plan's nodes, which its copies share. It is seen as the plan itself.
 #[cycle(plan)]
 #[derive(Drop)]
 pub struct PlanTree<M, G> {
-    pub(crate) node: PlanNode<M, G>,
+    pub(crate) node: Arc<PlanNode<M, G>>,
 }
 
 /// A node of a plan.
@@ -54,14 +53,15 @@ impl<M, G> Model for PlanTree<M, G> {
     ghost coded = { plan_code (Prim.hlevel (codes)) };
 
     ghost use Rattle.chan_tree.specs.Shown.{plan_of};
+    ghost use Rattle.std.specs.Arc.{arc_value};
 
-    ghost view = { λ a. plan_of a.node };
+    ghost view = { λ a. plan_of (arc_value a.node) };
 
     ghost size = { nodes };
 
     ghost use Rattle.chan_tree.specs.Falls.{falls};
 
-    ghost size_decreases = { λ a h. falls a.node };
+    ghost size_decreases = { λ a h. falls (arc_value a.node) };
 }
 
 impl<M, G> PlanTree<M, G> {
@@ -69,7 +69,7 @@ impl<M, G> PlanTree<M, G> {
     pub fn node(&self) -> &PlanNode<M, G>
         ensures { plan_of result.now ≡ self.now }
     {
-        &self.node
+        &*self.node
     }
 
     /// How many nodes there are.
@@ -78,7 +78,7 @@ impl<M, G> PlanTree<M, G> {
         requires few { versions.nodes self.now < 2 ^ 31 }
         ensures { result ≡ versions.nodes self.now }
     {
-        match &self.node {
+        match self.node() {
             PlanNode::Leaf(_) => 1,
             PlanNode::Par(_, plans) => 1 + nodes_of(plans.as_slice()),
             PlanNode::Sel(_, plans) => 1 + nodes_of(plans.as_slice()),
@@ -100,58 +100,12 @@ fn nodes_of<M, G>(trees: &[PlanTree<M, G>]) -> u32
 }
 
 impl<M: Copy, G: Copy> PlanTree<M, G> {
-    /// A copy of the whole tree.
-    #[cycle(copy)]
-    pub fn copy(&self, alloc: Global) -> Result<PlanTree<M, G>, NoMemory>
+    /// A copy of the whole tree. It shares the nodes.
+    pub fn copy(&self) -> Result<PlanTree<M, G>, NoMemory>
         ensures { IfOk result (λ copy. copy ≡ self.now) }
     {
-        match &self.node {
-            PlanNode::Leaf(leaf) => {
-                let leaf = leaf.clone()?;
-                Ok(PlanTree {
-                    node: PlanNode::Leaf(leaf),
-                })
-            }
-            PlanNode::Par(rule, plans) => {
-                let rule = rule_copy(alloc, rule)?;
-                let copies = copies(alloc, plans.as_slice())?;
-                Ok(PlanTree {
-                    node: PlanNode::Par(rule, copies),
-                })
-            }
-            PlanNode::Sel(timeout, plans) => {
-                let copies = copies(alloc, plans.as_slice())?;
-                Ok(PlanTree {
-                    node: PlanNode::Sel(*timeout, copies),
-                })
-            }
-        }
+        Ok(PlanTree {
+            node: self.node.clone()?,
+        })
     }
-}
-
-/// Copies of trees.
-#[cycle(copy)]
-fn copies<M: Copy, G: Copy>(
-    alloc: Global,
-    trees: &[PlanTree<M, G>],
-) -> Result<Vec<PlanTree<M, G>>, NoMemory>
-    ensures { IfOk result (λ copies. copies.items ≡ trees.now) }
-{
-    let mut copies = Vec::new(alloc);
-    for tree in trees {
-        copies.push(tree.copy(alloc)?)?;
-    }
-    Ok(copies)
-}
-
-fn rule_copy<M: Copy, G: Copy>(alloc: Global, rule: &Rule<M, G>) -> Result<Rule<M, G>, NoMemory>
-    ensures { IfOk result (λ copy. rule_of copy ≡ rule_of rule.now) }
-{
-    Ok(Rule {
-        maps: List::of(Vec::from_slice(alloc, rule.maps.list())?),
-        merges: List::of(Vec::from_slice(alloc, rule.merges.list())?),
-        fail: rule.fail,
-        ok: rule.ok,
-        timeout: rule.timeout,
-    })
 }

@@ -22,41 +22,40 @@ build-build_tries-requires g t c κs within =
     let before = sound-here c.args.chans.now c.args.number c.requires.sound (chan.Sel c.in-Sel.sel) at in
     (omega (arith, c.decreases), (search rules, (search rules, (c.requires.sound, (c.requires.there, (before.0, before.1))))))
 
-pub build-returns-in_ok-leaf-in-Leaf : goal.build-returns-in_ok-leaf-in-Leaf
-build-returns-in_ok-leaf-in-Leaf g t c =
+pub build-returns-in_ok-tree_of-in-Leaf : goal.build-returns-in_ok-tree_of-in-Leaf
+build-returns-in_ok-tree_of-in-Leaf g t c =
     let at = item-at c.args.chans.now c.args.number c.index-chans-number.result c.requires.there c.index-chans-number.is ∙ ap Some c.in-Leaf.is in
-    record {
-      tree = subst (λ l. IsPlanOf c.args.chans.now c.args.number c.args.call (spec.leaf_plan l)) (sym c.in_ok-leaf-in-Leaf.ensures)
-          (leaf-built c.args.chans.now c.args.number c.requires.sound c.args.call c.in-Leaf.leaf at);
-    }
+    let built = leaf-built c.args.chans.now c.args.number c.requires.sound c.args.call c.in-Leaf.leaf at in
+    let leaf = subst (λ l. IsPlanOf c.args.chans.now c.args.number c.args.call (spec.leaf_plan l)) (sym c.in_ok-leaf-in-Leaf.ensures) built in
+    record { tree = subst (IsPlanOf c.args.chans.now c.args.number c.args.call) (sym c.in_ok-tree_of-in-Leaf.ensures) leaf }
 
-pub build-returns-in_ok-kids-in-Par : goal.build-returns-in_ok-kids-in-Par
-build-returns-in_ok-kids-in-Par g t c =
+pub build-returns-in_ok-tree_of-in-Par : goal.build-returns-in_ok-tree_of-in-Par
+build-returns-in_ok-tree_of-in-Par g t c =
     let at = item-at c.args.chans.now c.args.number c.index-chans-number.result c.requires.there c.index-chans-number.is ∙ ap Some c.in-Par.is in
     let plans = plans_shown c.in_ok-kids-in-Par.kids.items in
     let subs = subst (λ xs. ArePlansOf c.args.chans.now c.args.call (numbers_of xs) plans) c.list.ensures c.in_ok-kids-in-Par.ensures.kids in
     let built = par-built c.args.chans.now c.args.number c.requires.sound c.args.call c.in-Par.par plans at subs in
-    record { tree = subst (λ r. IsPlanOf c.args.chans.now c.args.number c.args.call (spec.par_plan r plans)) (sym c.in_ok-rule-in-Par.ensures) built }
+    let par = subst (λ r. IsPlanOf c.args.chans.now c.args.number c.args.call (spec.par_plan r plans)) (sym c.in_ok-rule-in-Par.ensures) built in
+    record { tree = subst (IsPlanOf c.args.chans.now c.args.number c.args.call) (sym c.in_ok-tree_of-in-Par.ensures) par }
 
-pub build-returns-in_ok-kids-in-Sel : goal.build-returns-in_ok-kids-in-Sel
-build-returns-in_ok-kids-in-Sel g t c =
+pub build-returns-in_ok-tree_of-in-Sel : goal.build-returns-in_ok-tree_of-in-Sel
+build-returns-in_ok-tree_of-in-Sel g t c =
     let at = item-at c.args.chans.now c.args.number c.index-chans-number.result c.requires.there c.index-chans-number.is ∙ ap Some c.in-Sel.is in
-    record { tree = sel-built c.args.chans.now c.args.number c.requires.sound c.args.call c.in-Sel.sel _ at c.in_ok-kids-in-Sel.ensures.kids }
+    let built = sel-built c.args.chans.now c.args.number c.requires.sound c.args.call c.in-Sel.sel (plans_shown c.in_ok-kids-in-Sel.kids.items) at c.in_ok-kids-in-Sel.ensures.kids in
+    record { tree = subst (IsPlanOf c.args.chans.now c.args.number c.args.call) (sym c.in_ok-tree_of-in-Sel.ensures) built }
 
-pub build-returns-in_ok-kids-in-Part : goal.build-returns-in_ok-kids-in-Part
-build-returns-in_ok-kids-in-Part g t c =
+pub build-returns-in_ok-tree_of-in-Part : goal.build-returns-in_ok-tree_of-in-Part
+build-returns-in_ok-tree_of-in-Part g t c =
     let at = item-at c.args.chans.now c.args.number c.index-chans-number.result c.requires.there c.index-chans-number.is ∙ ap Some c.in-Part.is in
     let built = part-built c.args.chans.now c.args.number c.requires.sound c.args.call c.in-Part.part at in
-    record {
-      tree =
-          subst (λ ps. IsPlanOf c.args.chans.now c.args.number c.args.call (spec.par_plan (rule_shown c.in_ok-rule-in-Part.rule) ps)) (sym c.in_ok-kids-in-Part.ensures)
-          (subst (λ r. IsPlanOf c.args.chans.now c.args.number c.args.call (spec.par_plan r (spec.part_plans c.in-Part.part 0 c.in-Part.part.parts))) (sym c.in_ok-rule-in-Part.ensures) built);
-    }
+    let ruled = subst (λ r. IsPlanOf c.args.chans.now c.args.number c.args.call (spec.par_plan r (spec.part_plans c.in-Part.part 0 c.in-Part.part.parts))) (sym c.in_ok-rule-in-Part.ensures) built in
+    let part = subst (λ ps. IsPlanOf c.args.chans.now c.args.number c.args.call (spec.par_plan (rule_shown c.in_ok-rule-in-Part.rule) ps)) (sym c.in_ok-kids-in-Part.ensures) ruled in
+    record { tree = subst (IsPlanOf c.args.chans.now c.args.number c.args.call) (sym c.in_ok-tree_of-in-Part.ensures) part }
 
 pub build_subs-loop-sub-init : goal.build_subs-loop-sub-init
 build_subs-loop-sub-init g t c =
     record {
-      so_far = subst (λ built. AreLeft c.args.chans.now c.args.call (numbers_of c.args.subs.now) built (numbers_of c.args.subs.now)) (sym c.new-kids.ensures.items)
+      so_far = subst (λ built. AreLeft c.args.chans.now c.args.call (numbers_of c.args.subs.now) built (numbers_of c.args.subs.now)) (sym c.in_ok-kids.ensures.items)
           (left-all c.args.chans.now c.args.call (numbers_of c.args.subs.now));
     }
 
@@ -89,9 +88,9 @@ build_tries-loop-at-init g t c =
     let all = tries c.args.sel.now c.args.call in
     let count = c.from-count.ensures in
     let same : c.from-count.result + 1 - 0 ≡ c.args.sel.now.retry + 1 = omega (arith, count) in
-    let begun = subst (λ built. AreLeft c.args.chans.now c.args.call all built all) (sym c.new-kids.ensures.items) (left-all c.args.chans.now c.args.call all) in
+    let begun = subst (λ built. AreLeft c.args.chans.now c.args.call all built all) (sym c.in_ok-kids.ensures.items) (left-all c.args.chans.now c.args.call all) in
     record {
-      so_far = subst (λ n. AreLeft c.args.chans.now c.args.call all c.new-kids.result.items (tries_from c.args.sel.now.subs c.args.call 0 n)) (sym same) begun;
+      so_far = subst (λ n. AreLeft c.args.chans.now c.args.call all c.in_ok-kids.kids.items (tries_from c.args.sel.now.subs c.args.call 0 n)) (sym same) begun;
       within = omega arith;
       count = omega (arith, count);
       subs = c.list-subs.ensures;
