@@ -193,6 +193,14 @@ fn retry_among_subs<M, G>(
     ensures behind { result ≡ None → node.new ≡ node_behind chans.now (numbers_of subs.now) call node.old }
 {
     for sub in subs {
+        if let Chan::Leaf(leaf) = &chans[sub.chan as usize] {
+            // A plain channel is one node.
+            if *node == wanted {
+                return Some(leaf.retry);
+            }
+            *node += 1;
+            continue;
+        }
         let found = retry_at(chans, sub.chan, call, node, wanted);
         if found.is_some() {
             return found;

@@ -1,10 +1,11 @@
 -- The leaf of a number is looked for in one plan after another.
-use Rattle.std.proofs.Common.{rules, arith, ◌≡◌, ◌+◌, ◌-◌, ◌%◌, ◌==◌, ◌≤◌, ◌∷◌, slice_index, Some, None, length, drop, refl, ap, sym, ◌∙◌, subst}
+use Rattle.std.proofs.Common.{rules, arith, ◌≡◌, ◌+◌, ◌-◌, ◌%◌, ◌==◌, ◌<◌, ◌≤◌, ◌∷◌, slice_index, Some, None, length, drop, refl, ap, sym, ◌∙◌, subst}
+use Rattle.std.proofs.lemmas.Bool.Decides.{nat_tests}
 use Rattle.rpc_model.specs.declared.chan.Chan.TheVariants as chan
 use Rattle.rpc_model.specs.Plan.{tries_from}
 use Rattle.chan_tree.specs.Sound.{AreBefore}
 use Rattle.chan_tree.specs.Measures.{numbers_of}
-use Rattle.chan_tree.specs.Sizes.{node_behind, retry_among}
+use Rattle.chan_tree.specs.Sizes.{nodes_at, node_behind, retry_among}
 use Rattle.chan_tree.proofs.Built.{item-at, sound-here, before-drop, numbers-drop, numbers-end, try-before}
 use Rattle.chan_tree.proofs.Turns.{tries_next, tries_end}
 use Rattle.chan_tree.proofs.Sizes.{retry-found, retry-next, retry-end, behind-next, behind-end, behind-more, none-if, leaf-nodes, leaf-retry, part-behind, part-retry, par-retry, par-behind}
@@ -207,3 +208,77 @@ retry_at-retry_of_part-requires g t c =
     let behind = part-behind c.args.chans.now c.args.call c.requires.sound c.args.number c.requires.there c.in-Part.part at in
     let few = c.requires.few in
     omega (arith, behind, few)
+
+pub retry_among_subs-offset_bounds-chans-sub : goal.retry_among_subs-offset_bounds-chans-sub
+retry_among_subs-offset_bounds-chans-sub g t c =
+    let less = before-drop c.args.number c.args.subs.now c.loop-sub.sub-index c.sub-item.result c.requires.before c.loop-sub-test.true in
+    let same = ap (λ s. s.chan) c.sub-item.is in
+    let there = c.requires.there in
+    omega (arith, less, same, there)
+
+pub retry_among_subs-bounds-chans-sub : goal.retry_among_subs-bounds-chans-sub
+retry_among_subs-bounds-chans-sub g t c =
+    let less = before-drop c.args.number c.args.subs.now c.loop-sub.sub-index c.sub-item.result c.requires.before c.loop-sub-test.true in
+    let same = ap (λ s. s.chan) c.sub-item.is in
+    let there = c.requires.there in
+    omega (arith, less, same, there)
+
+pub retry_among_subs-returns-then-node-wanted-clause-retry : goal.retry_among_subs-returns-then-node-wanted-clause-retry
+retry_among_subs-returns-then-node-wanted-clause-retry g t c =
+    let chans = c.args.chans.now in
+    let item = c.sub-item.result in
+    let less = before-drop c.args.number c.args.subs.now c.loop-sub.sub-index item c.requires.before c.loop-sub-test.true in
+    let same = ap (λ s. s.chan) c.sub-item.is in
+    let there = c.requires.there in
+    let known : item.chan < length chans = omega (arith, less, same, there) in
+    let at = item-at chans item.chan c.index-chans-sub.result known c.index-chans-sub.is ∙ ap Some c.in-Leaf.is in
+    let rest = numbers_of (drop (c.loop-sub.sub-index + 1) c.args.subs.now) in
+    let split = numbers-drop c.args.subs.now c.loop-sub.sub-index item c.loop-sub-test.true ∙ ap (λ s. s.chan ∷ rest) (sym c.sub-item.is) in
+    let test = c.if-node-wanted.true in
+    let here : (c.loop-sub.node == c.args.wanted) ≡ Rattle.std.proofs.Common.true = grind (arith, nat_tests) in
+    let found = leaf-retry chans c.args.call c.requires.sound item.chan known c.in-Leaf.leaf c.loop-sub.node c.args.wanted at ∙ rw here refl in
+    retry-found chans c.args.call item.chan rest c.loop-sub.node c.args.wanted (Some c.in-Leaf.leaf.retry) (sym found) refl
+    ∙ ap (λ xs. retry_among chans xs c.args.call c.loop-sub.node c.args.wanted) (sym split) ∙ c.loop-sub.invariant.none
+
+pub retry_among_subs-overflow_add-node : goal.retry_among_subs-overflow_add-node
+retry_among_subs-overflow_add-node g t c =
+    let chans = c.args.chans.now in
+    let item = c.sub-item.result in
+    let less = before-drop c.args.number c.args.subs.now c.loop-sub.sub-index item c.requires.before c.loop-sub-test.true in
+    let same = ap (λ s. s.chan) c.sub-item.is in
+    let there = c.requires.there in
+    let known : item.chan < length chans = omega (arith, less, same, there) in
+    let at = item-at chans item.chan c.index-chans-sub.result known c.index-chans-sub.is ∙ ap Some c.in-Leaf.is in
+    let one = leaf-nodes chans c.args.call c.requires.sound item.chan known c.in-Leaf.leaf at in
+    let rest = numbers_of (drop (c.loop-sub.sub-index + 1) c.args.subs.now) in
+    let split = numbers-drop c.args.subs.now c.loop-sub.sub-index item c.loop-sub-test.true ∙ ap (λ s. s.chan ∷ rest) (sym c.sub-item.is) in
+    let place = ap (λ xs. node_behind chans xs c.args.call c.loop-sub.node) (sym split) ∙ c.loop-sub.invariant.place in
+    let more = behind-more chans c.args.call item.chan rest c.loop-sub.node in
+    let few = c.requires.few in
+    omega (arith, one, place, more, few)
+
+pub retry_among_subs-loop-sub-preserved-in-Leaf : goal.retry_among_subs-loop-sub-preserved-in-Leaf
+retry_among_subs-loop-sub-preserved-in-Leaf g t c =
+    let chans = c.args.chans.now in
+    let item = c.sub-item.result in
+    let less = before-drop c.args.number c.args.subs.now c.loop-sub.sub-index item c.requires.before c.loop-sub-test.true in
+    let same = ap (λ s. s.chan) c.sub-item.is in
+    let there = c.requires.there in
+    let known : item.chan < length chans = omega (arith, less, same, there) in
+    let at = item-at chans item.chan c.index-chans-sub.result known c.index-chans-sub.is ∙ ap Some c.in-Leaf.is in
+    let one = leaf-nodes chans c.args.call c.requires.sound item.chan known c.in-Leaf.leaf at in
+    let node : c.loop-sub.node + 1 ≡ c.loop-sub.node + nodes_at chans c.args.call item.chan = omega (arith, one) in
+    let rest = numbers_of (drop (c.loop-sub.sub-index + 1) c.args.subs.now) in
+    let split = numbers-drop c.args.subs.now c.loop-sub.sub-index item c.loop-sub-test.true ∙ ap (λ s. s.chan ∷ rest) (sym c.sub-item.is) in
+    let test = c.if-node-wanted.false in
+    let here : (c.loop-sub.node == c.args.wanted) ≡ Rattle.std.proofs.Common.false = grind (arith, nat_tests) in
+    let none = leaf-retry chans c.args.call c.requires.sound item.chan known c.in-Leaf.leaf c.loop-sub.node c.args.wanted at ∙ rw here refl in
+    record {
+      place =
+          ap (node_behind chans rest c.args.call) node ∙ sym (behind-next chans c.args.call item.chan rest c.loop-sub.node)
+          ∙ ap (λ xs. node_behind chans xs c.args.call c.loop-sub.node) (sym split) ∙ c.loop-sub.invariant.place;
+      none =
+          ap (λ n. retry_among chans rest c.args.call n c.args.wanted) node
+          ∙ sym (retry-next chans c.args.call item.chan rest c.loop-sub.node c.args.wanted (sym none))
+          ∙ ap (λ xs. retry_among chans xs c.args.call c.loop-sub.node c.args.wanted) (sym split) ∙ c.loop-sub.invariant.none;
+    }
