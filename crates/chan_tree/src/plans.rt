@@ -123,8 +123,8 @@ impl<M, G> Plan<M, G> {
         Some(self.nodes + place)
     }
 
-    #[tactic(auto, using(crate::proofs::Leaves::leaf_is, crate::proofs::Leaves::same_chans, crate::proofs::Offsets::leaves_rise))]
     /// The leaf of this number. None exactly where the node of this number isn't a leaf.
+    #[tactic(auto, using(crate::proofs::Leaves::leaf_is, crate::proofs::Leaves::same_chans, crate::proofs::Offsets::leaves_rise))]
     pub fn leaf(&self, node: u32) -> Option<&LeafChan>
         ensures { option_map (λ l. l.now) result ≡ versions.leaf_at 0 self.now node }
     {
