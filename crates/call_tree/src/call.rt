@@ -54,7 +54,7 @@ impl<M: Mapper + Copy, G: Merger + Copy> Call<M, G> {
         requires early { moment < 2 ^ 60 }
         ensures begun { IfOk result (λ r. let run = start (kinds_of M.answer G.answer) (arc_value plan) call request moment in (r.0 ≡ begun_by (arc_value plan) call run) × IsEffects run r.1) }
     {
-        let (bare, effects) = BareCall::begin(alloc, plan, call, request, moment)?;
+        let (bare, effects) = BareCall::begin(alloc, plan, call, request, moment, Vec::new(alloc))?;
         let begun = Call {
             bare,
             log: Vec::new(alloc),
@@ -80,7 +80,7 @@ impl<M: Mapper + Copy, G: Merger + Copy> Call<M, G> {
     {
         self.log.reserve(1)?;
         let again = event_copy(alloc, &event)?;
-        let effects = self.bare.apply(alloc, again, moment)?;
+        let effects = self.bare.apply(alloc, again, moment, Vec::new(alloc))?;
         self.log.push_reserved(Entry {
             event,
             moment,

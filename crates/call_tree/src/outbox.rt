@@ -13,13 +13,16 @@ pub(crate) struct Outbox {
 }
 
 impl Outbox {
-    pub(crate) fn new(alloc: Global) -> Outbox
+    /// Nothing went out yet. The marks come into the room of the list that is given, whose own marks are dropped.
+    pub(crate) fn new(alloc: Global, spare: Vec<MarkAt>) -> Outbox
         ensures sends { result.sends.items ≡ [] }
         ensures marks { result.marks.items ≡ [] }
     {
+        let mut marks = spare;
+        marks.clear();
         Outbox {
             sends: Vec::new(alloc),
-            marks: Vec::new(alloc),
+            marks,
         }
     }
 

@@ -126,8 +126,8 @@ fn begun<M: Copy, G: Copy>(
         counts: counts_of(rule, asked),
         merges: List::of(Vec::from_slice(alloc, rule.merges.list())?),
         end: refusal(asked),
-        firsts: Vec::new(alloc),
-        kids: Vec::new(alloc),
+        firsts: Vec::with_capacity(alloc, asked.len())?,
+        kids: Vec::with_capacity(alloc, asked.len())?,
     })
 }
 
@@ -195,8 +195,8 @@ fn start_sel<M: Mapper + Copy, G: Merger + Copy>(
     let mut sel = SelNode {
         request,
         end: None,
-        firsts: Vec::new(alloc),
-        kids: Vec::new(alloc),
+        firsts: Vec::with_capacity(alloc, plans.len())?,
+        kids: Vec::with_capacity(alloc, plans.len())?,
     };
     start_tries(alloc, plans, &mut sel, node, call, moment, out)?;
     Ok(sel)

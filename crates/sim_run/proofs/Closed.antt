@@ -1,5 +1,5 @@
 -- The ids of a call that was told wait no more: what passed on the wires then is that its attempts were lost.
-use Rattle.std.proofs.Common.{◌≡◌, ℕ, zero, suc, nat_eq, List, Option, None, Some, sym, refl}
+use Rattle.std.proofs.Common.{◌≡◌, ℕ, zero, suc, nat_eq, List, Option, None, Some, refl}
 use Rattle.std.specs.Map.{lookup}
 use Rattle.rpc_model.specs.declared.meaning.Meaning.{Meaning}
 use Rattle.rpc_model.specs.declared.meaning.Meaning.TheVariants.{Node, Attempt}

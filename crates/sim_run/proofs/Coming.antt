@@ -1,5 +1,5 @@
 -- After how many calls the plans of a channel come round again, and plans that are kept.
-use Rattle.std.proofs.Common.{◌≡◌, ◌≢◌, ℕ, zero, suc, ◌+◌, ◌*◌, ◌%◌, ◌<◌, ◌≤◌, List, [], ◌∷◌, ◌++◌, length, take, get_or, set, map, slice_get, slice_index, nat_eq, Bool, true, false, Option}
+use Rattle.std.proofs.Common.{◌≡◌, ◌≢◌, ℕ, zero, suc, ◌+◌, ◌*◌, ◌%◌, ◌<◌, ◌≤◌, List, [], ◌∷◌, ◌++◌, length, take, get_or, set, slice_get, slice_index, nat_eq, Bool, true, false, Option}
 use Rattle.std.proofs.Common.{Some, None, arith, refl, ap, sym, ◌∙◌, subst}
 use Rattle.std.specs.List.{AllByRecursion}
 use Rattle.std.proofs.Math.Nat.{mod-zero, mod-mod_of_dvd, mod-add-mod}
@@ -12,7 +12,7 @@ use Rattle.rpc_model.specs.declared.chan.Sub.{Sub}
 use Rattle.rpc_model.specs.declared.kinds.MapKind.{MapKind}
 use Rattle.rpc_model.specs.declared.kinds.MergeKind.{MergeKind}
 use Rattle.rpc_model.specs.Plan.{Plan, plans_of, and_plan, par_over, sel_over, rule_of, subs_of, tries, tries_from, chan_plan, plan}
-use Rattle.chan_tree.specs.Sound.{AreBefore, IsSound, AreSound}
+use Rattle.chan_tree.specs.Sound.{IsSound, AreSound}
 use Rattle.chan_tree.specs.Measures.{numbers_of}
 use Rattle.chan_tree.proofs.Fuel.{plan-is}
 use Rattle.chan_tree.proofs.Built.{sound-here}

@@ -1,5 +1,5 @@
 -- What a table of calls finds by the places of their numbers.
-use Rattle.std.proofs.Common.{◌≡◌, ℕ, nat_eq, true, false, List, get_or, length, position, Option, None, Some, is_some, ap, sym, ◌∙◌, refl}
+use Rattle.std.proofs.Common.{◌≡◌, ℕ, nat_eq, false, List, get_or, length, position, Option, None, Some, is_some, ap, sym, ◌∙◌, refl}
 use Rattle.std.specs.Map.{keys_of, lookup}
 use Rattle.std.specs.Option.{option_map}
 use Rattle.std.proofs.lemmas.Option.{slice_get_read, slice_get-map}

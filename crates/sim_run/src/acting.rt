@@ -8,19 +8,19 @@ ghost use Rattle.sim_run.specs.Slots.{IsEarly};
 
 use crate::marking::set_marks;
 use crate::open_call::{OpenCall, mark_event};
+use crate::timer::Timer;
 use crate::turn::Turn;
 use crate::wire::Wire;
 use crate::wires::send;
 use chan_tree::Plan;
 use rpc_base::{List, NoMemory};
 use rpc_model::{Event, MapKind, MergeKind, Send};
-use timer_core::Marks;
 
 /// Gives a call what comes to it. The first id is the call's own.
 pub(crate) fn turn_call(
     call: &mut OpenCall,
     wires: &mut Vec<Wire>,
-    marks: &mut Marks,
+    marks: &mut Timer,
     first: u64,
     turn: Turn,
 ) -> Result<(), NoMemory>
@@ -38,7 +38,7 @@ pub(crate) fn turn_call(
 fn act(
     call: &mut OpenCall,
     wires: &mut Vec<Wire>,
-    marks: &mut Marks,
+    marks: &mut Timer,
     first: u64,
     event: Event,
     moment: u64,
@@ -47,9 +47,9 @@ fn act(
     requires early { moment < 2 ^ 60 }
     ensures { OnOk result (acting call.new wires.new.items marks.new ≡ acted first event moment (acting call.old wires.old.items marks.old)) }
 {
-    let effects = call.apply(event, moment)?;
+    let effects = call.apply(event, moment, marks.take_spare())?;
     post(wires, call.plan(), call.number(), first, effects.sends)?;
-    set_marks(marks, first, effects.marks.list())?;
+    set_marks(marks, first, effects.marks)?;
     Ok(())
 }
 
@@ -57,7 +57,7 @@ fn act(
 fn weave(
     call: &mut OpenCall,
     wires: &mut Vec<Wire>,
-    marks: &mut Marks,
+    marks: &mut Timer,
     first: u64,
     moment: u64,
 ) -> Result<(), NoMemory>
@@ -75,7 +75,7 @@ fn weave(
 pub(crate) fn finish_call(
     call: &mut OpenCall,
     wires: &mut Vec<Wire>,
-    marks: &mut Marks,
+    marks: &mut Timer,
     first: u64,
     reached: u64,
 ) -> Result<u64, NoMemory>

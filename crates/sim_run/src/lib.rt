@@ -13,7 +13,9 @@ mod rounds;
 mod slots;
 mod state;
 mod ticket;
+mod timer;
 mod turn;
+mod wait;
 mod wire;
 mod wires;
 

@@ -4,12 +4,23 @@ ghost use Rattle.std.specs.Prelude.{◌≡◌, ◌^◌, ◌<◌, OnOk};
 ghost use Rattle.sim_run.specs.Marked.{timed, marked};
 ghost use Rattle.timer_core.specs.Marks.{added};
 
-use rpc_base::NoMemory;
+use crate::timer::Timer;
+use rpc_base::{List, NoMemory};
 use rpc_model::{EBACKUPREQUEST, ERPCTIMEDOUT, MarkAt};
-use timer_core::{Mark, Marks};
+use timer_core::Mark;
 
 /// Sets the marks of a call with this first id, each under the id of its node.
-pub(crate) fn set_marks(marks: &mut Marks, first: u64, set: &[MarkAt]) -> Result<(), NoMemory>
+pub(crate) fn set_marks(marks: &mut Timer, first: u64, set: List<MarkAt>) -> Result<(), NoMemory>
+    requires { first < 2 ^ 63 }
+    ensures { OnOk result (marks.new ≡ marked first set marks.old) }
+{
+    add_all(marks, first, set.list())?;
+    marks.keep_spare(set.into_vec());
+    Ok(())
+}
+
+/// Adds the marks of a call with this first id, one after the other.
+fn add_all(marks: &mut Timer, first: u64, set: &[MarkAt]) -> Result<(), NoMemory>
     requires { first < 2 ^ 63 }
     ensures { OnOk result (marks.new ≡ marked first set.now marks.old) }
 {
@@ -20,7 +31,7 @@ pub(crate) fn set_marks(marks: &mut Marks, first: u64, set: &[MarkAt]) -> Result
 }
 
 /// Adds a mark of a call with this first id.
-fn add(marks: &mut Marks, first: u64, mark: &MarkAt) -> Result<(), NoMemory>
+fn add(marks: &mut Timer, first: u64, mark: &MarkAt) -> Result<(), NoMemory>
     requires { first < 2 ^ 63 }
     ensures { OnOk result (marks.new ≡ added (timed first mark.now) marks.old) }
 {

@@ -10,20 +10,25 @@ ghost use Rattle.rpc_model.specs.Marks.{begin, apply, set_mark, set_all, is_befo
 ghost use Rattle.call_tree.specs.Running.{IsEffects};
 ghost use Rattle.sim_run.specs.Calls.{due_taken, open_taken};
 
+use crate::wait::Wait;
 use call_tree::{BareCall, Effects};
 use chan_tree::Plan;
 use rpc_base::{Bytes, NoMemory};
 use rpc_model::{Event, MapKind, MarkAt, MergeKind, Told};
+use smallvec::SmallVec;
 use std::alloc::Global;
 use std::marker::Model;
 use std::sync::Arc;
+
+/// A plain channel sets two marks, a deadline and that of a backup request, and so many take no memory.
+type Waiting = SmallVec<Wait, 2>;
 
 /// A call on a channel of any kind, and its marks that weren't taken, in the order in which they come.
 #[derive(Drop)]
 pub(crate) struct OpenCall {
     alloc: Global,
     call: BareCall<MapKind, MergeKind>,
-    waiting: Vec<MarkAt>,
+    waiting: Waiting,
 }
 
 impl Model for OpenCall {
@@ -44,19 +49,21 @@ impl Model for OpenCall {
 }
 
 impl OpenCall {
+    /// Begins a call. The marks that this sets are put into the room of the list that is given.
     pub(crate) fn begin(
         alloc: Global,
         call: u32,
         plan: Arc<Plan<MapKind, MergeKind>>,
         request: Bytes,
         moment: u64,
+        spare: Vec<MarkAt>,
     ) -> Result<(OpenCall, Effects), NoMemory>
         requires early { moment < 2 ^ 60 }
         ensures begun { IfOk result (λ r. r.0 ≡ begin call (arc_value plan) request moment) }
         ensures effects { IfOk result (λ r. IsEffects (start script_kinds (arc_value plan) call request moment) r.1) }
     {
-        let (call, effects) = BareCall::begin(alloc, plan, call, request, moment)?;
-        let mut waiting = Vec::new(alloc);
+        let (call, effects) = BareCall::begin(alloc, plan, call, request, moment, spare)?;
+        let mut waiting = SmallVec::new(alloc);
         set_marks(&mut waiting, effects.marks.list())?;
         Ok((
             OpenCall {
@@ -99,13 +106,18 @@ impl OpenCall {
         }
     }
 
-    /// Applies an event at a moment.
-    pub(crate) fn apply(&mut self, event: Event, moment: u64) -> Result<Effects, NoMemory>
+    /// Applies an event at a moment. The marks that this sets are put into the room of the list that is given.
+    pub(crate) fn apply(
+        &mut self,
+        event: Event,
+        moment: u64,
+        spare: Vec<MarkAt>,
+    ) -> Result<Effects, NoMemory>
         requires early { moment < 2 ^ 60 }
         ensures applied { OnOk result (self.new ≡ apply self.old event moment) }
         ensures effects { IfOk result (λ effects. IsEffects (step script_kinds self.old.call self.old.state event moment) effects) }
     {
-        let effects = self.call.apply(self.alloc, event, moment)?;
+        let effects = self.call.apply(self.alloc, event, moment, spare)?;
         set_marks(&mut self.waiting, effects.marks.list())?;
         Ok(effects)
     }
@@ -114,7 +126,7 @@ impl OpenCall {
     pub(crate) fn take_due(&mut self, moment: u64) -> Option<MarkAt>
         ensures { (result, self.new) ≡ due_taken moment self.old }
     {
-        let first = *self.waiting.first()?;
+        let first = self.waiting.as_slice().first()?.mark();
         if first.moment > moment {
             return None;
         }
@@ -129,7 +141,7 @@ impl OpenCall {
         if self.is_over() {
             return None;
         }
-        let first = *self.waiting.first()?;
+        let first = self.waiting.as_slice().first()?.mark();
         self.waiting.remove(0);
         Some(first)
     }
@@ -147,7 +159,7 @@ pub(crate) fn mark_event(mark: MarkAt) -> Event
 }
 
 /// Sets marks, one after the other.
-fn set_marks(waiting: &mut Vec<MarkAt>, marks: &[MarkAt]) -> Result<(), NoMemory>
+fn set_marks(waiting: &mut Waiting, marks: &[MarkAt]) -> Result<(), NoMemory>
     ensures { OnOk result (waiting.new.items ≡ set_all marks.now waiting.old.items) }
 {
     for mark in marks {
@@ -157,22 +169,22 @@ fn set_marks(waiting: &mut Vec<MarkAt>, marks: &[MarkAt]) -> Result<(), NoMemory
 }
 
 /// Sets a mark behind those that it doesn't come before.
-fn set_mark(waiting: &mut Vec<MarkAt>, mark: &MarkAt) -> Result<(), NoMemory>
+fn set_mark(waiting: &mut Waiting, mark: &MarkAt) -> Result<(), NoMemory>
     ensures { OnOk result (waiting.new.items ≡ set_mark mark.now waiting.old.items) }
 {
     let at = place_of(waiting.as_slice(), *mark);
-    waiting.insert(at, *mark)?;
+    waiting.insert(at, Wait::of(*mark))?;
     Ok(())
 }
 
 /// How many marks of a list stand before a mark that is set.
-fn place_of(waiting: &[MarkAt], mark: MarkAt) -> usize
+fn place_of(waiting: &[Wait], mark: MarkAt) -> usize
     ensures place { set_mark mark waiting.now ≡ take result waiting.now ++ mark ∷ drop result waiting.now }
     ensures within { result ≤ length waiting.now }
 {
     let mut at = 0;
     for other in waiting {
-        if is_before(mark, *other) {
+        if is_before(mark, other.mark()) {
             return at;
         }
         at += 1;

@@ -11,12 +11,12 @@ ghost use Rattle.sim_run.specs.Slots.{IsFirst, IsEarly, IsJoinedEarly, visit, to
 
 use crate::acting::{finish_call, turn_call};
 use crate::open_call::OpenCall;
+use crate::timer::Timer;
 use crate::turn::Turn;
 use crate::wire::{Reply, Wire};
 use id_pool::{Collect, Lock, Pool, Refused};
 use rpc_base::NoMemory;
 use rpc_model::{Event, Meaning, Told};
-use timer_core::Marks;
 
 /// A call takes the lowest vacant slot, with ids for so many versions; its first id. None where no slot is vacant.
 pub(crate) fn take_slot(pool: &mut Pool<OpenCall>, width: u32, call: OpenCall) -> Option<u64>
@@ -37,7 +37,7 @@ pub(crate) fn take_slot(pool: &mut Pool<OpenCall>, width: u32, call: OpenCall) -
 pub(crate) fn bring(
     pool: &mut Pool<OpenCall>,
     wires: &mut Vec<Wire>,
-    marks: &mut Marks,
+    marks: &mut Timer,
     id: u64,
     turn: Turn,
 ) -> Result<(), NoMemory>
@@ -68,7 +68,7 @@ fn meaning(pool: &Pool<OpenCall>, id: u64) -> Option<Meaning>
 pub(crate) fn deliver(
     pool: &mut Pool<OpenCall>,
     wires: &mut Vec<Wire>,
-    marks: &mut Marks,
+    marks: &mut Timer,
     reply: Reply,
     moment: u64,
 ) -> Result<(), NoMemory>
@@ -94,7 +94,7 @@ pub(crate) fn deliver(
 pub(crate) fn lose(
     pool: &mut Pool<OpenCall>,
     wires: &mut Vec<Wire>,
-    marks: &mut Marks,
+    marks: &mut Timer,
     id: u64,
     code: u32,
     moment: u64,
@@ -119,7 +119,7 @@ pub(crate) fn lose(
 fn take(
     pool: &mut Pool<OpenCall>,
     wires: &mut Vec<Wire>,
-    marks: &mut Marks,
+    marks: &mut Timer,
     id: u64,
     first: u64,
     turn: Turn,
@@ -141,7 +141,7 @@ fn take(
 pub(crate) fn join(
     pool: &mut Pool<OpenCall>,
     wires: &mut Vec<Wire>,
-    marks: &mut Marks,
+    marks: &mut Timer,
     first: u64,
     reached: u64,
 ) -> Result<Option<(u64, Told)>, NoMemory>
@@ -184,7 +184,7 @@ struct Finished {
 fn finish(
     pool: &mut Pool<OpenCall>,
     wires: &mut Vec<Wire>,
-    marks: &mut Marks,
+    marks: &mut Timer,
     id: u64,
     first: u64,
     reached: u64,

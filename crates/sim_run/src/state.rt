@@ -25,6 +25,7 @@ use crate::open_call::OpenCall;
 use crate::planning::Plans;
 use crate::slots::{bring, deliver, join, lose, take_slot};
 use crate::ticket::Ticket;
+use crate::timer::Timer;
 use crate::turn::Turn;
 use crate::wire::{Wire, clone_bytes};
 use crate::wires::{forget, open_wires, receive};
@@ -33,7 +34,6 @@ use id_pool::Pool;
 use rpc_base::{Bytes, NoMemory};
 use rpc_model::{Act, Event, Script, Told};
 use std::alloc::Global;
-use timer_core::Marks;
 
 /// The moment reached, in milliseconds; the calls by their numbers, in the order of their lines, `None` where a call found
 /// no slot; the slots; a wire for each server; and the marks of all calls, each with the id of its node.
@@ -43,7 +43,7 @@ pub(crate) struct Replay {
     calls: CallTable,
     pool: Pool<OpenCall>,
     wires: Vec<Wire>,
-    marks: Marks,
+    marks: Timer,
 }
 
 impl Replay {
@@ -59,7 +59,7 @@ impl Replay {
             calls: CallTable::new(alloc),
             pool: Pool::open(alloc, script.slots)?,
             wires: open_wires(alloc, script.servers)?,
-            marks: Marks::open(alloc),
+            marks: Timer::open(alloc),
         })
     }
 
@@ -157,7 +157,8 @@ impl Replay {
         let width = plan.width();
         let shared = plan.clone()?;
         let text = clone_bytes(alloc, text)?;
-        let (open, effects) = OpenCall::begin(alloc, call, shared, text, self.reached)?;
+        let spare = self.marks.take_spare();
+        let (open, effects) = OpenCall::begin(alloc, call, shared, text, self.reached, spare)?;
         let Some(first) = take_slot(&mut self.pool, width, open) else {
             self.refuse(call, told)?;
             return Ok(());
@@ -183,7 +184,7 @@ impl Replay {
             ticket.first,
             effects.sends,
         )?;
-        set_marks(&mut self.marks, ticket.first, effects.marks.list())?;
+        set_marks(&mut self.marks, ticket.first, effects.marks)?;
         self.calls.push(call, Some(ticket))?;
         Ok(())
     }

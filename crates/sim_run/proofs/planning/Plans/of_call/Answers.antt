@@ -1,5 +1,5 @@
 -- What is kept is the call's plan, and what is made anew is kept for the others that have it.
-use Rattle.std.proofs.Common.{◌≡◌, ◌≤◌, get_or, Some, refl, ap, sym, ◌∙◌, arith}
+use Rattle.std.proofs.Common.{◌≡◌, get_or, Some, refl, ap, sym, ◌∙◌, arith}
 use Rattle.std.specs.Arc.{arc_value}
 use Rattle.rpc_model.specs.Plan.{plan}
 use Rattle.sim_run.specs.declared.planning.Plans.{Plans}

@@ -34,7 +34,7 @@ returns-in_default-clause-ready c =
     let wide : c.width-width.result ≡ width p = c.width-width.ensures ∙ ap width c.deref.ensures in
     let n = no-place c.args.self.now.pool c.width-width.result c.in_ok-open.open (rw wide (plan-wide p)) (rw wide c.in_ok-plan.ensures.narrow) c.in_default.ensures.first in
     let same = c.in_ok-refuse.ensures.same in
-    full-ready c.args.self.now c.refuse.new.self c.args.script.now c.args.call c.requires.ready c.requires.new (same.0 ∙ c.in_default.ensures.after ∙ n.1) same.2 same.3
+    full-ready c.args.self.now c.refuse.new.self c.args.script.now c.args.call c.requires.ready c.requires.new (same.0 ∙ c.in_default.ensures.after ∙ n.1) same.2 (same.3 ∙ c.take_spare-spare.ensures.same)
     c.in_ok-refuse.ensures.calls c.in_ok-refuse.ensures.once
 
 pub returns-in_default-clause-after : goal.returns-in_default-clause-after
@@ -76,7 +76,8 @@ returns-clause-ready c =
     let run : IsEffects (start script_kinds p c.args.call c.args.text.now c.args.self.now.reached) c.in_ok-open.effects =
     subst (λ t. IsEffects (start script_kinds p c.args.call t c.args.self.now.reached) c.in_ok-open.effects) c.in_ok-text.ensures
     (subst (λ q. IsEffects (start script_kinds q c.args.call c.in_ok-text.text c.args.self.now.reached) c.in_ok-open.effects) shared c.in_ok-open.ensures.effects) in
-    let marks = c.in_ok-begin.ensures.marks ∙ ap (λ ms. marked c.in-Some.first ms c.args.self.now.marks) run.marks in
+    let marks = c.in_ok-begin.ensures.marks ∙ ap (marked c.in-Some.first c.in_ok-open.effects.marks) c.take_spare-spare.ensures.same
+    ∙ ap (λ ms. marked c.in-Some.first ms c.args.self.now.marks) run.marks in
     let wires = c.in_ok-begin.ensures.sent ∙ ap (λ ss. posted c.in-Some.first p c.args.call ss c.args.self.now.wires.items) run.sends in
     call-ready c.args.self.now c.begin-2.new.self c.args.script.now c.args.call c.args.self.now.reached ticket c.args.text.now c.requires.ready c.requires.few c.in_ok-plan.ensures.narrow
     c.in_ok-plan.ensures.served c.requires.new at made c.in_ok-begin.ensures.calls c.in_ok-begin.ensures.once marks wires

@@ -1,5 +1,4 @@
 -- A reply fits a frame.
-use Rattle.std.proofs.Common.{length, ap, arith, ◌≤◌}
 use Rattle.sim_run.proofs.Streams.{reply-fits}
 use Rattle.sim_run.proofs.wire.Wire.receive.Goals as goal
 
