@@ -35,8 +35,7 @@ use rpc_base::{Bytes, NoMemory};
 use rpc_model::{Act, Event, Script, Told};
 use std::alloc::Global;
 
-/// The moment reached, in milliseconds; the calls by their numbers, in the order of their lines, `None` where a call found
-/// no slot; the slots; a wire for each server; and the marks of all calls, each with the id of its node.
+/// The moment reached, in milliseconds; the calls by their numbers; the slots; a wire a server; and the marks of all calls.
 #[derive(Drop)]
 pub(crate) struct Replay {
     reached: u64,
