@@ -1,4 +1,5 @@
 pub mod Answer
+pub mod Magic
 pub mod More
 pub mod Pieces
 pub mod Sized

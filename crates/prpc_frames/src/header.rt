@@ -1,5 +1,5 @@
-ghost use Rattle.std.specs.Prelude.{◌≡◌, ◌≤◌, ◌+◌, length, IfOk, IfErr, IfSome};
-ghost use Rattle.prpc_frames.specs.Stream.Reading.{begins, number_at, sizes as sizes_of, header};
+ghost use Rattle.std.specs.Prelude.{◌≡◌, ◌≤◌, ◌+◌, ℕ, length, Ok, IfOk, IfErr, IfSome, IsTrue};
+ghost use Rattle.prpc_frames.specs.Stream.Reading.{magic, begins, number_at, sizes as sizes_of, header};
 ghost use Rattle.prpc_frames.specs.Seen.{IsFinal};
 
 use crate::fault::FeedFault;
@@ -23,7 +23,30 @@ pub(crate) struct Sizes {
     pub(crate) meta: u32,
 }
 
-/// Refuses the first of the bytes that differs from the magic.
+/// Whether the bytes begin with the whole magic.
+#[tactic(auto, using(crate::proofs::Magic::begins_whole))]
+fn has_magic(bytes: &[u8]) -> bool
+    ensures { IsTrue result → ((at : ℕ) → begins at magic bytes.now ≡ Ok tt) }
+{
+    bytes.len() >= 4
+        && bytes[0] == MAGIC[0]
+        && bytes[1] == MAGIC[1]
+        && bytes[2] == MAGIC[2]
+        && bytes[3] == MAGIC[3]
+}
+
+/// Refuses the first of the bytes that differs from the magic. Most frames begin with all of it, so that is asked first.
+fn check_start(at: u64, bytes: &[u8]) -> Result<(), FeedFault>
+    ensures read { result ≡ begins at magic bytes.now }
+    ensures named { IfErr result IsFinal }
+{
+    if has_magic(bytes) {
+        return Ok(());
+    }
+    check_magic(at, &MAGIC, bytes)
+}
+
+/// The same byte by byte, for any magic.
 #[tactic(auto, unfolding(crate::specs::Stream::Reading::begins))]
 fn check_magic(at: u64, magic: &[u8], bytes: &[u8]) -> Result<(), FeedFault>
     ensures read { result ≡ begins at magic.now bytes.now }
@@ -43,6 +66,7 @@ fn check_magic(at: u64, magic: &[u8], bytes: &[u8]) -> Result<(), FeedFault>
 
 /// The number of 32 bits in network order at this place.
 #[tactic(auto, unfolding(crate::specs::Stream::Reading::number_at))]
+#[inline(always)]
 fn read_number(bytes: &[u8], at: usize) -> u32
     requires { at + 4 ≤ length bytes.now }
     ensures { result ≡ number_at at bytes.now }
@@ -72,7 +96,7 @@ pub(crate) fn read_header(at: u64, bytes: &[u8]) -> Result<Option<Sizes>, FeedFa
     ensures named { IfErr result IsFinal }
     ensures within { IfOk result (λ o. IfSome o (λ s. (s.meta ≤ s.body) × (12 ≤ length bytes.now))) }
 {
-    check_magic(at, &MAGIC, bytes)?;
+    check_start(at, bytes)?;
     if bytes.len() < HEADER {
         return Ok(None);
     }

@@ -8,7 +8,7 @@ use crate::frame::Frame;
 use crate::header::{HEADER, Sizes, read_header};
 use rpc_base::{Bytes, NoMemory};
 use rpc_meta::{Meta, MetaFault, read_meta};
-use std::alloc::Global;
+use std::alloc::{AllocError, Global};
 
 /// A whole frame, and how many bytes it has.
 #[derive(Debug, Drop)]
@@ -50,6 +50,16 @@ fn attachment_size(meta: &Meta) -> usize
     }
 }
 
+/// A list of bytes with these. It takes no memory where there are none.
+fn bytes_of(alloc: Global, bytes: &[u8]) -> Result<Bytes, AllocError>
+    ensures { IfOk result (λ b. b ≡ bytes.now) }
+{
+    if bytes.is_empty() {
+        return Ok(Bytes::of(Vec::new(alloc)));
+    }
+    Ok(Bytes::of(Vec::from_slice(alloc, bytes)?))
+}
+
 /// Parts what is behind the meta into payload and attachment.
 #[tactic(auto, unfolding(crate::specs::Stream::Reading::content))]
 fn read_content(alloc: Global, at: u64, meta: Meta, bytes: &[u8]) -> Result<Frame, FeedFault>
@@ -66,8 +76,8 @@ fn read_content(alloc: Global, at: u64, meta: Meta, bytes: &[u8]) -> Result<Fram
     let (payload, attachment) = bytes.split_at(bytes.len() - size);
     Ok(Frame {
         meta,
-        payload: Bytes::of(Vec::from_slice(alloc, payload)?),
-        attachment: Bytes::of(Vec::from_slice(alloc, attachment)?),
+        payload: bytes_of(alloc, payload)?,
+        attachment: bytes_of(alloc, attachment)?,
     })
 }
 

@@ -1,4 +1,4 @@
-ghost use Rattle.std.specs.Prelude.{◌≡◌, ◌++◌, ◌≤◌, length, drop, IfOk, IfSome, OnErr};
+ghost use Rattle.std.specs.Prelude.{◌≡◌, ◌++◌, ◌≤◌, [], length, drop, IfOk, IfSome, OnErr};
 ghost use Rattle.std.specs.Vec.{vec_len};
 ghost use Rattle.prpc_frames.specs.Stream.Reading.{frames as frames_of, joined};
 ghost use Rattle.prpc_frames.specs.Seen.{answer_of, stream_seen, IsFinal, IsFront};
@@ -127,6 +127,25 @@ pub(crate) fn take_piece(
     ensures rest_kept { OnErr result (rest.new.items ≡ rest.old.items) }
     ensures waiting_kept { OnErr result (waiting.new.items ≡ waiting.old.items) }
 {
+    if rest.is_empty() {
+        return take_whole(alloc, at, rest, waiting, piece);
+    }
+    take_behind(alloc, at, rest, waiting, piece)
+}
+
+/// Takes a piece where something is left of the stream, which is copied behind that.
+fn take_behind(
+    alloc: Global,
+    at: u64,
+    rest: &mut Vec<u8>,
+    waiting: &mut VecDeque<Frame>,
+    piece: &[u8],
+) -> Result<Reached, NoMemory>
+    ensures read { IfOk result (λ r. record { frames = waiting.new.items; rest = rest.new.items; at = r.at; fault = r.fault } ≡ joined waiting.old.items (frames_of at (rest.old.items ++ piece.now))) }
+    ensures lasting { IfOk result (λ r. IfSome r.fault IsFinal) }
+    ensures rest_kept { OnErr result (rest.new.items ≡ rest.old.items) }
+    ensures waiting_kept { OnErr result (waiting.new.items ≡ waiting.old.items) }
+{
     let before = rest.len();
     rest.extend_from_slice(piece)?;
     match move_frames(alloc, at, rest, waiting) {
@@ -136,6 +155,36 @@ pub(crate) fn take_piece(
         }
         Err(NoMemory) => {
             rest.truncate(before);
+            Err(NoMemory)
+        }
+    }
+}
+
+/// Takes a piece where nothing is left of the stream. Its frames are read where it lies, and only the bytes behind them
+/// are copied.
+fn take_whole(
+    alloc: Global,
+    at: u64,
+    rest: &mut Vec<u8>,
+    waiting: &mut VecDeque<Frame>,
+    piece: &[u8],
+) -> Result<Reached, NoMemory>
+    requires { rest.old.items ≡ [] }
+    ensures read { IfOk result (λ r. record { frames = waiting.new.items; rest = rest.new.items; at = r.at; fault = r.fault } ≡ joined waiting.old.items (frames_of at piece.now)) }
+    ensures lasting { IfOk result (λ r. IfSome r.fault IsFinal) }
+    ensures rest_kept { OnErr result (rest.new.items ≡ rest.old.items) }
+    ensures waiting_kept { OnErr result (waiting.new.items ≡ waiting.old.items) }
+{
+    let before = waiting.len();
+    let reached = move_frames(alloc, at, piece, waiting)?;
+    let left = piece.split_at(reached.used).1;
+    if left.is_empty() {
+        return Ok(reached);
+    }
+    match rest.extend_from_slice(left) {
+        Ok(()) => Ok(reached),
+        Err(_) => {
+            waiting.truncate(before);
             Err(NoMemory)
         }
     }

@@ -1,14 +1,12 @@
 ghost use Rattle.std.specs.Prelude.{◌≡◌, ◌++◌, ◌↔◌, ◌≤◌, ◌-◌, ◌^◌, min, length, pos, IfOk, IfSome, OnOk, OnErr, IsTrue};
 ghost use Rattle.rpc_meta.specs.Meta.{meta_bytes};
 ghost use Rattle.rpc_meta.specs.Appending.{Begins};
-ghost use Rattle.prpc_frames.specs.Stream.Spelling.{number_bytes, header_bytes, body_bytes, frame_bytes, frame_of, IsTold, IsFitting};
+ghost use Rattle.prpc_frames.specs.Stream.Spelling.{header_bytes, body_bytes, frame_bytes, frame_of, IsTold, IsFitting};
 
 use crate::frame::Frame;
-use crate::header::{HEADER, MAGIC, MOST};
-use byteorder::{BigEndian, ByteOrder};
+use crate::header::{HEADER, MAGIC, MOST, Sizes};
 use rpc_base::NoMemory;
 use rpc_meta::{Meta, is_writable, spelled_len, write_meta};
-use std::alloc::AllocError;
 
 /// Whether the meta tells the size of an attachment of so many bytes. It may be silent where there is none.
 fn tells_attachment(meta: &Meta, len: usize) -> bool
@@ -52,45 +50,32 @@ pub fn frame_fits(frame: &Frame) -> bool
         && is_writable(&frame.meta)
 }
 
-/// How many bytes the meta has, where the frame fits.
+/// How many bytes the body and its meta have, where the frame fits.
 #[tactic(auto, unfolding(crate::specs::Stream::Spelling::body_bytes))]
-fn meta_len(meta: &Meta, payload: &[u8], attachment: &[u8]) -> u32
+fn sizes_of(meta: &Meta, payload: &[u8], attachment: &[u8]) -> Sizes
     requires { IsFitting (frame_of meta.now payload.now attachment.now) }
-    ensures { result ≡ length (meta_bytes meta.now) }
+    ensures body { result.body ≡ length (body_bytes (frame_of meta.now payload.now attachment.now)) }
+    ensures meta { result.meta ≡ length (meta_bytes meta.now) }
+    ensures most { result.body ≤ 16777216 }
 {
-    spelled_len(meta) as u32
+    let size = spelled_len(meta) as u32;
+    Sizes {
+        body: size + payload.len() as u32 + attachment.len() as u32,
+        meta: size,
+    }
 }
 
-/// How many bytes the body has, where the frame fits.
-fn fitting_len(meta: &Meta, payload: &[u8], attachment: &[u8]) -> u32
-    requires { IsFitting (frame_of meta.now payload.now attachment.now) }
-    ensures is { result ≡ length (body_bytes (frame_of meta.now payload.now attachment.now)) }
-    ensures most { result ≤ 16777216 }
-{
-    body_len(meta, payload, attachment) as u32
-}
-
-/// Appends a number of 32 bits in network order.
+/// The header: the magic, and how many bytes the body and the meta have, in network order.
 #[tactic(auto, unfolding(crate::specs::Stream::Spelling::number_bytes))]
-fn put_number(to: &mut Vec<u8>, number: u32) -> Result<(), AllocError>
-    ensures written { OnOk result (to.new.items ≡ to.old.items ++ number_bytes number) }
-    ensures begun { OnErr result (Begins to.old.items to.new.items) }
+fn header_of(body: u32, meta: u32) -> [u8; HEADER]
+    ensures { result ≡ header_bytes body meta }
 {
-    let mut bytes = [0u8; 4];
-    BigEndian::write_u32(&mut bytes, number);
-    to.extend_from_slice(&bytes)
-}
-
-/// The header: the magic, and how many bytes the body and the meta have.
-#[tactic(auto, using(crate::proofs::Begun::begun_past))]
-fn put_header(to: &mut Vec<u8>, body: u32, meta: u32) -> Result<(), NoMemory>
-    ensures written { OnOk result (to.new.items ≡ to.old.items ++ header_bytes body meta) }
-    ensures begun { OnErr result (Begins to.old.items to.new.items) }
-{
-    to.extend_from_slice(&MAGIC)?;
-    put_number(to, body)?;
-    put_number(to, meta)?;
-    Ok(())
+    let body = body.to_be_bytes();
+    let meta = meta.to_be_bytes();
+    [
+        MAGIC[0], MAGIC[1], MAGIC[2], MAGIC[3], body[0], body[1], body[2], body[3], meta[0],
+        meta[1], meta[2], meta[3],
+    ]
 }
 
 /// The meta, the payload and the attachment.
@@ -107,6 +92,9 @@ fn put_body(
 {
     write_meta(meta, to)?;
     to.extend_from_slice(payload)?;
+    if attachment.is_empty() {
+        return Ok(());
+    }
     to.extend_from_slice(attachment)?;
     Ok(())
 }
@@ -123,9 +111,9 @@ fn put_frame(
     ensures written { OnOk result (to.new.items ≡ to.old.items ++ frame_bytes (frame_of meta.now payload.now attachment.now)) }
     ensures begun { OnErr result (Begins to.old.items to.new.items) }
 {
-    let body = fitting_len(meta, payload, attachment);
-    to.reserve(HEADER + body as usize)?;
-    put_header(to, body, meta_len(meta, payload, attachment))?;
+    let sizes = sizes_of(meta, payload, attachment);
+    to.reserve(HEADER + sizes.body as usize)?;
+    to.extend_from_slice(&header_of(sizes.body, sizes.meta))?;
     put_body(to, meta, payload, attachment)?;
     Ok(())
 }
