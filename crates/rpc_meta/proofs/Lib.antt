@@ -2,6 +2,7 @@ pub mod Begun
 pub mod FiveFaults
 pub mod Modulo
 pub mod Names
+pub mod Room
 pub mod RoundTrip
 pub mod Said
 pub mod Shorter
