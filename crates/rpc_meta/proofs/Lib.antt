@@ -1,6 +1,6 @@
 pub mod Begun
 pub mod FiveFaults
-pub mod Modulo
+pub mod Groups
 pub mod Names
 pub mod Room
 pub mod RoundTrip

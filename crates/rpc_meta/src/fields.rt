@@ -69,6 +69,7 @@ fn read_fixed(at: u32, len: u64, bytes: &[u8]) -> Result<(Value<'_>, &[u8]), Met
     Ok((Value::Fixed, rest))
 }
 
+#[inline(always)]
 #[tactic(auto, unfolding(crate::specs::Meta::Wire::value_at))]
 fn read_value(at: u32, kind: u64, bytes: &[u8]) -> Result<(Value<'_>, &[u8]), MetaFault>
     ensures read { Reads (λ x. (value_seen x.0, x.1.now)) result (value_at at kind bytes.now) }
@@ -84,6 +85,7 @@ fn read_value(at: u32, kind: u64, bytes: &[u8]) -> Result<(Value<'_>, &[u8]), Me
 }
 
 /// Reads the field at the front of what is left of a message that ends at `end`, and gives the bytes after it.
+#[inline(always)]
 #[tactic(auto, unfolding(crate::specs::Meta::Wire::field))]
 fn read_field(end: u32, bytes: &[u8]) -> Result<(Field<'_>, &[u8]), MetaFault>
     requires { length bytes.now ≤ end }
@@ -137,8 +139,9 @@ impl<'a> FieldReader<'a> {
         FieldReader { end, rest: bytes }
     }
 
-    #[tactic(auto, using(crate::proofs::Shorter::field_steps))]
     /// The next field, none at the end of the message, or the fault in its place.
+    #[inline(always)]
+    #[tactic(auto, using(crate::proofs::Shorter::field_steps))]
     pub(crate) fn next(&mut self) -> Result<Option<Field<'a>>, MetaFault>
         ensures next { IsNext self.old result self.new }
         ensures within { IfOk result (λ o. IfSome o IsWithin) }
