@@ -28,11 +28,7 @@ pub(crate) struct Sizes {
 fn has_magic(bytes: &[u8]) -> bool
     ensures { IsTrue result → ((at : ℕ) → begins at magic bytes.now ≡ Ok tt) }
 {
-    bytes.len() >= 4
-        && bytes[0] == MAGIC[0]
-        && bytes[1] == MAGIC[1]
-        && bytes[2] == MAGIC[2]
-        && bytes[3] == MAGIC[3]
+    bytes.len() >= 4 && bytes[0] == b'P' && bytes[1] == b'R' && bytes[2] == b'P' && bytes[3] == b'C'
 }
 
 /// Refuses the first of the bytes that differs from the magic. Most frames begin with all of it, so that is asked first.
@@ -65,8 +61,8 @@ fn check_magic(at: u64, magic: &[u8], bytes: &[u8]) -> Result<(), FeedFault>
 }
 
 /// The number of 32 bits in network order at this place.
-#[tactic(auto, unfolding(crate::specs::Stream::Reading::number_at))]
 #[inline(always)]
+#[tactic(auto, unfolding(crate::specs::Stream::Reading::number_at))]
 fn read_number(bytes: &[u8], at: usize) -> u32
     requires { at + 4 ≤ length bytes.now }
     ensures { result ≡ number_at at bytes.now }

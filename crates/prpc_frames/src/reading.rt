@@ -119,12 +119,15 @@ fn read_whole(
 }
 
 /// The frame at the front of these bytes, which begin at the place `at` of the stream; none where it isn't there whole.
-#[tactic(auto, unfolding(crate::specs::Stream::Reading::frame, crate::specs::Stream::Reading::whole))]
+#[tactic(auto, using(crate::proofs::Steps::frame_none), unfolding(crate::specs::Stream::Reading::frame, crate::specs::Stream::Reading::whole))]
 fn read_frame(alloc: Global, at: u64, bytes: &[u8]) -> Result<Option<Whole>, FeedFault>
     ensures read { Gives result (frame_of at bytes.now) }
     ensures named { IfErr result NamesNoMemory }
     ensures within { IfOk result (λ o. IfSome o (λ w. (12 ≤ w.size) × (w.size ≤ length bytes.now))) }
 {
+    if bytes.is_empty() {
+        return Ok(None);
+    }
     let Some(sizes) = read_header(at, bytes)? else {
         return Ok(None);
     };

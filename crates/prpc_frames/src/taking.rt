@@ -48,7 +48,8 @@ fn read_frames(
     'frames: loop {
         match read_front(alloc, place, bytes.split_at(used).1)? {
             Ok(Some(whole)) => {
-                waiting.push_back(whole.frame)?;
+                waiting.reserve(1)?;
+                waiting.push_back_reserved(whole.frame);
                 place = place.saturating_add(whole.size as u64);
                 used += whole.size;
             }

@@ -11,9 +11,9 @@ frames-preserved c =
     let here : Ok (Some c.in-Ok-Some.whole) ≡ frame c.frames.place (drop c.frames.used c.args.bytes.now) = found ∙ (c.in_ok-whole.ensures.read ∙ ap (frame c.frames.place) c.split_at.ensures.back) in
     let inside : (12 ≤ c.in-Ok-Some.whole.size) × (c.in-Ok-Some.whole.size ≤ length c.split_at.result.1.now) =
     whole_inside c.in_ok-whole.field-0 c.in-Ok-Some.whole (length c.split_at.result.1.now) found c.in_ok-whole.ensures.within in
-    let longer : c.push_back.new.self.items ≡ c.frames.waiting.items ++ c.in-Ok-Some.whole.frame ∷ [] = c.in_ok-push_back-in-Ok-Some.ensures.items in
-    let next = one_more c.frames.waiting.items c.push_back.new.self.items c.frames.place c.frames.used c.in-Ok-Some.whole c.args.bytes.now _ longer here c.frames.invariant.0 in
-    let front : IsFront c.args.waiting.now.items c.push_back.new.self.items =
+    let longer : c.push_back_reserved.new.self.items ≡ c.frames.waiting.items ++ c.in-Ok-Some.whole.frame ∷ [] = rw c.in_ok-reserve-in-Ok-Some.ensures.items at c.push_back_reserved.ensures.items in
+    let next = one_more c.frames.waiting.items c.push_back_reserved.new.self.items c.frames.place c.frames.used c.in-Ok-Some.whole c.args.bytes.now _ longer here c.frames.invariant.0 in
+    let front : IsFront c.args.waiting.now.items c.push_back_reserved.new.self.items =
     rw longer (front_more c.args.waiting.now.items c.frames.waiting.items (c.in-Ok-Some.whole.frame ∷ []) c.frames.invariant.2) in
     (rw c.saturating_add-place.ensures next, omega (arith, inside.1, c.split_at.ensures.back_len), front)
 
