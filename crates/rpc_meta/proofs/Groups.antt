@@ -33,7 +33,8 @@ unfolding groups
 sum_none at low weight zero bytes total h e = e
 sum_none at low weight (suc most) bytes total h e = absurd (omega arith)
 
-pub sum_cut : (at low weight most : ℕ) (bytes : List ℕ) (total : Result (ℕ × List ℕ) MetaFault) → 0 < most → length bytes ≡ 0 → total ≡ sum_from low weight (groups at most bytes) → total ≡ Err (Cut at)
+pub sum_cut : (at low weight most : ℕ) (bytes : List ℕ) (total : Result (ℕ × List ℕ) MetaFault) → 0 < most → length bytes ≡ 0
+    → total ≡ sum_from low weight (groups at most bytes) → total ≡ Err (Cut at)
 unfolding groups
 sum_cut at low weight zero bytes total h k e = absurd (omega arith)
 sum_cut at low weight (suc most) [] total h k e = e
@@ -55,7 +56,8 @@ sum_step low weight b high =
     let parts : weight * (b + 128 * high) ≡ weight * b + weight * 128 * high = grind arith in
     ap (λ (n : ℕ). (low + n) % 2 ^ 64) parts ∙ sum_mod low (weight * b) (weight * 128 * high) (weight * 128 % 2 ^ 64 * high) (mul-mod_first (weight * 128) high (2 ^ 64))
 
-sum_bind : (low weight b : ℕ) (r : Result (ℕ × List ℕ) MetaFault) → sum_from low weight (r >>= λ high. Ok (b + 128 * high.0, high.1)) ≡ sum_from ((low + weight * b % 2 ^ 64) % 2 ^ 64) (weight * 128 % 2 ^ 64) r
+sum_bind : (low weight b : ℕ) (r : Result (ℕ × List ℕ) MetaFault)
+    → sum_from low weight (r >>= λ high. Ok (b + 128 * high.0, high.1)) ≡ sum_from ((low + weight * b % 2 ^ 64) % 2 ^ 64) (weight * 128 % 2 ^ 64) r
 sum_bind low weight b (Ok x) = ap (λ (n : ℕ). Ok (n, x.1)) (sum_step low weight b x.0)
 sum_bind low weight b (Err e) = refl
 
