@@ -1,5 +1,5 @@
 -- Lists that begin with what stood there before.
-use Rattle.std.proofs.Common.{ℕ, ◌≤◌, List, ◌++◌, length, take, arith, sym, ap, ◌∙◌}
+use Rattle.std.proofs.Common.{ℕ, List, ◌++◌, length, take, arith, sym, ap, ◌∙◌}
 use Rattle.std.proofs.lemmas.List.{length-append, take-take}
 use Rattle.std.proofs.Math.Seq.{take-append_seam}
 use Rattle.rpc_meta.specs.Appending.{Begins}
