@@ -2,7 +2,6 @@
 use Rattle.std.proofs.Common.{◌≡◌, ℕ, zero, suc, ◌+◌, ◌-◌, ◌<◌, ◌≤◌, List, ◌++◌, position, slice_get, Option, Some, None, arith, refl, ap, sym, ◌∙◌, subst}
 use Rattle.std.specs.List.{IsDistinct}
 use Rattle.std.specs.Option.{option_map}
-use Rattle.std.proofs.lemmas.Option.{slice_get_past}
 use Rattle.rpc_model.specs.declared.meaning.Meaning.{Meaning}
 use Rattle.rpc_model.specs.declared.meaning.Meaning.TheVariants.{Node, Attempt}
 use Rattle.rpc_model.specs.Plan.{Plan}
@@ -44,16 +43,12 @@ module _ {M G : Type 0} where
   pub node_offset : (p : Plan M G) (n : ℕ) → n < nodes p → offset_of p (Node n) ≡ Some n
   node_offset p n less = offset-meaning p (Node n) n (node_meaning p n less)
 
-  pub past_meaning : (p : Plan M G) (o : ℕ) → width p ≤ o → meaning_of p o ≡ None
-  unfolding meaning_of width
-  past_meaning p o past = slice_get_past (versions p) o past
-
-  pub attempt_meaning : (p : Plan M G) (o : ℕ) → nodes p ≤ o → meaning_of p o ≡ slice_get (attempts_by (leaf_nodes 0 p) (leaf_counts p)) (o - nodes p)
+  pub attempt_meaning : (p : Plan M G) (o : ℕ) → nodes p ≤ o → meaning_of p o ≡ slice_get (attempt_versions 0 p) (o - nodes p)
   unfolding meaning_of versions
   attempt_meaning p o behind =
       let split : o ≡ nodes p + (o - nodes p) = omega (arith, behind) in
-      subst (λ i. slice_get (node_versions 0 (nodes p) ++ attempt_versions 0 p) i ≡ slice_get (attempts_by (leaf_nodes 0 p) (leaf_counts p)) (o - nodes p)) (sym split)
-      (get-past 0 (nodes p) (attempt_versions 0 p) (o - nodes p) ∙ ap (λ xs. slice_get xs (o - nodes p)) (attempts-are 0 p))
+      subst (λ i. slice_get (node_versions 0 (nodes p) ++ attempt_versions 0 p) i ≡ slice_get (attempt_versions 0 p) (o - nodes p)) (sym split)
+      (get-past 0 (nodes p) (attempt_versions 0 p) (o - nodes p))
 
   pub attempt_offset : (p : Plan M G) (node attempt : ℕ)
       → offset_of p (Attempt node attempt) ≡ option_map (λ i. nodes p + i) (position (is_same (Attempt node attempt)) (attempts_by (leaf_nodes 0 p) (leaf_counts p)))

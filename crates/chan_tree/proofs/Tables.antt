@@ -10,7 +10,7 @@ use Rattle.rpc_model.specs.Plan.{Plan, leaf_plan, par_plan, sel_plan, Plans, las
 use Rattle.rpc_model.specs.Versions.{nodes, nodes_of, possible_attempts, possible_attempts_of, leaf_versions, attempt_versions, attempt_versions_of, is_same}
 use Rattle.rpc_model.proofs.First.{position_some}
 use Rattle.rpc_model.proofs.Versions.{length-leaf as count-versions, Apart, apart-append, leaf-apart-past, position-of, position-none}
-use Rattle.chan_tree.specs.Table.{firsts_from, attempts_by, leaf_nodes, leaf_nodes_of, leaf_counts, leaf_counts_of, total, AreSome, IsRising, IsLastUpTo}
+use Rattle.chan_tree.specs.Table.{firsts_from, attempts_by, leaf_nodes, leaf_nodes_of, leaf_counts, leaf_counts_of, total, IsRising}
 
 total-append : (xs ys : List ℕ) → total (xs ++ ys) ≡ total xs + total ys
 total-append [] ys = omega arith
@@ -37,6 +37,15 @@ module _ {M G : Type 0} where
   firsts-then first plan plans = firsts-append first (leaf_counts plan) (leaf_counts_of plans) (first + possible_attempts plan) (let h = total-counts plan in omega (arith, h))
 
 -- ---- the attempts of the leaves, one after another
+
+one-more : (node j count : ℕ) → leaf_versions node j (suc count) ≡ leaf_versions node j count ++ Attempt node (j + count) ∷ []
+one-more node j zero = ap (λ n. Attempt node n ∷ []) (let same : j ≡ j + 0 = omega arith in same)
+one-more node j (suc count) =
+    ap (λ xs. Attempt node j ∷ xs) (one-more node (j + 1) count)
+    ∙ ap (λ n. Attempt node j ∷ leaf_versions node (j + 1) count ++ Attempt node n ∷ []) (let same : j + 1 + count ≡ j + suc count = omega arith in same)
+
+pub one-more-attempt : (node count : ℕ) → leaf_versions node 0 (suc count) ≡ leaf_versions node 0 count ++ Attempt node count ∷ []
+one-more-attempt node count = one-more node 0 count ∙ ap (λ n. leaf_versions node 0 count ++ Attempt node n ∷ []) (let same : 0 + count ≡ count = omega arith in same)
 
 length-leaf : (node j count : ℕ) (rest : List Meaning) (o : ℕ) → slice_get (leaf_versions node j count ++ rest) (count + o) ≡ slice_get rest o
 length-leaf node j zero rest o = ap (slice_get rest) (let same : 0 + o ≡ o = omega arith in same)
@@ -76,32 +85,6 @@ nodes-some (sel_plan timeout plans) = omega arith
 pub length-firsts : (first : ℕ) (counts : List ℕ) → length (firsts_from first counts) ≡ length counts
 length-firsts first [] = refl
 length-firsts first (c ∷ counts) = ap suc (length-firsts (first + c) counts)
-
--- Where each count is at least 1, the places of first attempts rise.
-pub firsts-rise : (first : ℕ) (counts : List ℕ) → AreSome counts → IsRising (firsts_from first counts)
-firsts-rise first [] some i j less most = absurd (omega (arith, most))
-firsts-rise first (c ∷ counts) some zero zero less most = absurd (omega (arith, less))
-firsts-rise first (c ∷ counts) some zero (suc j) less most =
-    let l = length-firsts (first + c) counts in
-    let h = first-least (first + c) counts j (omega (arith, most, l)) in
-    let a = some.0 in
-    omega (arith, h, a)
-firsts-rise first (c ∷ counts) some (suc i) zero less most = absurd (omega (arith, less))
-firsts-rise first (c ∷ counts) some (suc i) (suc j) less most = firsts-rise (first + c) counts some.1 i j (omega (arith, less)) (omega (arith, most))
-
--- The attempts of a leaf end where the next leaf's begin, or at the end of all.
-pub next-first : (first : ℕ) (counts : List ℕ) (i : ℕ) → suc i < length counts → get_or (firsts_from first counts) (suc i) 0 ≡ get_or (firsts_from first counts) i 0 + get_or counts i 0
-next-first first [] i less = absurd (omega (arith, less))
-next-first first (c ∷ []) i less = absurd (omega (arith, less))
-next-first first (c ∷ d ∷ counts) zero less = refl
-next-first first (c ∷ d ∷ counts) (suc i) less = next-first (first + c) (d ∷ counts) i (omega (arith, less))
-
-pub last-first : (first : ℕ) (counts : List ℕ) (i : ℕ) → i + 1 ≡ length counts → get_or (firsts_from first counts) i 0 + get_or counts i 0 ≡ first + total counts
-last-first first [] i end = absurd (omega (arith, end))
-last-first first (c ∷ []) zero end = omega arith
-last-first first (c ∷ []) (suc i) end = absurd (omega (arith, end))
-last-first first (c ∷ d ∷ counts) zero end = absurd (omega (arith, end))
-last-first first (c ∷ d ∷ counts) (suc i) end = let h = last-first (first + c) (d ∷ counts) i (omega (arith, end)) in omega (arith, h)
 
 -- ---- what isn't there
 
@@ -166,21 +149,7 @@ by-append (n ∷ ns) ms [] ds same = absurd (omega (arith, same))
 by-append (n ∷ ns) ms (c ∷ cs) ds same =
     ap (λ xs. leaf_versions n 0 c ++ xs) (by-append ns ms cs ds (omega (arith, same))) ∙ sym (append_assoc (leaf_versions n 0 c) (attempts_by ns cs) (attempts_by ms ds))
 
-some-append : (xs ys : List ℕ) → AreSome xs → AreSome ys → AreSome (xs ++ ys)
-some-append [] ys h hs = hs
-some-append (x ∷ xs) ys h hs = (h.0, some-append xs ys h.1 hs)
-
 module _ {M G : Type 0} where
-  mutual
-    pub some-counts : (plan : Plan M G) → AreSome (leaf_counts plan)
-    some-counts (leaf_plan leaf) = (omega arith, tt)
-    some-counts (par_plan rule plans) = some-all plans
-    some-counts (sel_plan timeout plans) = some-all plans
-
-    some-all : (plans : Plans M G) → AreSome (leaf_counts_of plans)
-    some-all last_plan = tt
-    some-all (plan_then plan plans) = some-append (leaf_counts plan) (leaf_counts_of plans) (some-counts plan) (some-all plans)
-
   mutual
     pub same-length : (node : ℕ) (plan : Plan M G) → length (leaf_nodes node plan) ≡ length (leaf_counts plan)
     same-length node (leaf_plan leaf) = refl
@@ -231,43 +200,12 @@ within-total first [] i less = absurd (omega (arith, less))
 within-total first (c ∷ counts) zero less = omega arith
 within-total first (c ∷ counts) (suc i) less = let h = within-total (first + c) counts i (omega (arith, less)) in omega (arith, h)
 
-pub total-some : (place : ℕ) (counts : List ℕ) → place < total counts → 1 ≤ length counts
-total-some place [] less = absurd (omega (arith, less))
-total-some place (c ∷ counts) less = omega arith
-
-pub first-is : (first : ℕ) (counts : List ℕ) → 1 ≤ length counts → get_or (firsts_from first counts) 0 0 ≡ first
-first-is first [] some = absurd (omega (arith, some))
-first-is first (c ∷ counts) some = refl
-
 pub before_or_not : (a b : ℕ) → (a < b) ⊎ (b ≤ a)
 before_or_not a b = by (nat_lt a b) refl
   where
     by : (v : Bool) → nat_lt a b ≡ v → (a < b) ⊎ (b ≤ a)
     by true e = inl (grind (arith, nat_tests))
     by false e = inr (grind (arith, nat_tests))
-
--- The leaf whose first place is the last one up to this place has its attempt there.
-pub attempt-found : (leaves counts : List ℕ) (place at : ℕ) → length leaves ≡ length counts → IsLastUpTo (firsts_from 0 counts) place at → place < total counts
-    → slice_get (attempts_by leaves counts) place ≡ Some (Attempt (get_or leaves at 0) (place - get_or (firsts_from 0 counts) at 0))
-attempt-found leaves counts place at same last within =
-    let l = length-firsts 0 counts in
-    let p = last.place in
-    let low = last.low in
-    attempt-at leaves counts 0 at (place - get_or (firsts_from 0 counts) at 0) place (omega (arith, same, l, p)) same (few (before_or_not (at + 1) (length counts))) (omega (arith, low))
-  where
-    few : (at + 1 < length counts) ⊎ (length counts ≤ at + 1) → place - get_or (firsts_from 0 counts) at 0 < get_or counts at 0
-    few (inl less) =
-        let l = length-firsts 0 counts in
-        let low = last.low in
-        let high = last.high (suc at) (omega arith) (omega (arith, less, l)) in
-        let next = next-first 0 counts at (omega (arith, less)) in
-        omega (arith, low, high, next)
-    few (inr end) =
-        let l = length-firsts 0 counts in
-        let p = last.place in
-        let low = last.low in
-        let whole = last-first 0 counts at (omega (arith, end, l, p)) in
-        omega (arith, low, within, whole)
 
 module _ (leaves counts : List ℕ) (node attempt : ℕ) (same : length leaves ≡ length counts) where
   pub found-place : (at : ℕ) → IsDistinct is_same (attempts_by leaves counts) → at < length leaves → get_or leaves at 0 ≡ node → attempt < get_or counts at 0
@@ -299,9 +237,6 @@ module _ (leaves counts : List ℕ) (node attempt : ℕ) (same : length leaves �
 module _ {M G : Type 0} where
   pub same_length : (p : Plan M G) → length (leaf_nodes 0 p) ≡ length (leaf_counts p)
   same_length p = same-length 0 p
-
-  pub some_counts : (p : Plan M G) → AreSome (leaf_counts p)
-  some_counts p = some-counts p
 
 length-by : (leaves counts : List ℕ) → length (attempts_by leaves counts) ≤ total counts
 length-by [] [] = omega arith

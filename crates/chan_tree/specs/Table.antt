@@ -1,4 +1,4 @@
--- The leaves of a plan as four lists: their numbers, the places of their first attempts, how many attempts each may issue, and their channels.
+-- The leaves of a plan as lists: their numbers, the places of their first attempts, how many attempts each may issue, and their channels.
 use Rattle.std.specs.Prelude.{ℕ, ◌+◌, ◌<◌, ◌≤◌, ◌==◌, List, [], ◌∷◌, ◌++◌, length, get_or, Option, None, Some, if◌then◌else◌}
 use Rattle.rpc_model.specs.declared.chan.LeafChan.{LeafChan}
 use Rattle.rpc_model.specs.declared.meaning.Meaning.{Meaning}
@@ -57,11 +57,6 @@ module _ {M G : Type 0} where
 abbrev pub total : List ℕ → ℕ
 total [] = 0
 total (x ∷ xs) = x + total xs
-
--- each is at least 1
-abbrev pub AreSome : List ℕ → Type 0
-AreSome [] = Unit {0}
-AreSome (c ∷ counts) = (1 ≤ c) × AreSome counts
 
 -- numbers that rise
 abbrev pub IsRising : List ℕ → Type 0

@@ -1,9 +1,9 @@
 ghost use Rattle.std.specs.Option.{option_map};
-ghost use Rattle.std.specs.Prelude.{◌≡◌, ℕ, ◌<◌, ◌≤◌, Option, None, Some, IfOk};
+ghost use Rattle.std.specs.Prelude.{◌≡◌, ℕ, ◌<◌, ◌≤◌, Option, None, Some, IfOk, IfSome};
 ghost use Rattle.rpc_model.specs.Versions as versions;
 ghost use Rattle.rpc_model.specs.declared.meaning.Meaning.TheVariants as meaning;
 
-use crate::table::{Table, add_tree, attempt_at, leaf_of, place_of};
+use crate::table::{Table, add_tree, attempt_of, leaf_of, meaning_at};
 use crate::tree::PlanTree;
 use rpc_base::NoMemory;
 use rpc_model::{LeafChan, Meaning};
@@ -21,6 +21,7 @@ pub struct Plan<M, G> {
     firsts: Vec<u32>,
     counts: Vec<u32>,
     chans: Vec<Arc<LeafChan>>,
+    meanings: Vec<Meaning>,
 }
 
 impl<M, G> Model for Plan<M, G> {
@@ -55,6 +56,7 @@ pub(crate) fn tabled<M: Drop, G: Drop>(
         firsts: Vec::new(alloc),
         counts: Vec::new(alloc),
         chans: Vec::new(alloc),
+        meanings: Vec::new(alloc),
     };
     add_tree(&tree, &mut table)?;
     let Table {
@@ -64,6 +66,7 @@ pub(crate) fn tabled<M: Drop, G: Drop>(
         firsts,
         counts,
         chans,
+        meanings,
     } = table;
     Ok(Plan {
         tree,
@@ -73,6 +76,7 @@ pub(crate) fn tabled<M: Drop, G: Drop>(
         firsts,
         counts,
         chans,
+        meanings,
     })
 }
 
@@ -108,19 +112,30 @@ impl<M, G> Plan<M, G> {
         node
     }
 
-    /// The offset of an attempt's version in the range: none exactly where the node isn't a leaf or has no such attempt.
-    #[tactic(auto, using(crate::proofs::Offsets::attempt_offset, crate::proofs::Offsets::leaves_rise, crate::proofs::Offsets::attempts_differ, crate::proofs::Offsets::few_attempts, crate::proofs::Tables::same_length))]
-    pub fn offset_of_attempt(&self, node: u32, attempt: u32) -> Option<u32>
-        ensures { result ≡ versions.offset_of self.now (meaning.Attempt node attempt) }
+    /// An attempt: the offset of its version in the range, and its leaf. None exactly where the node isn't a leaf or has no
+    /// such attempt.
+    #[tactic(auto, using(crate::proofs::Offsets::attempt_offset, crate::proofs::Offsets::leaves_rise, crate::proofs::Offsets::attempts_differ, crate::proofs::Offsets::few_attempts, crate::proofs::Tables::same_length, crate::proofs::Leaves::leaf_is))]
+    pub fn attempt(&self, node: u32, attempt: u32) -> Option<(u32, &LeafChan)>
+        ensures offset { option_map (λ a. a.0) result ≡ versions.offset_of self.now (meaning.Attempt node attempt) }
+        ensures leaf { IfSome result (λ a. Some a.1.now ≡ versions.leaf_at 0 self.now node) }
     {
-        let place = place_of(
+        let (place, leaf) = attempt_of(
             self.leaves.as_slice(),
             self.firsts.as_slice(),
             self.counts.as_slice(),
+            self.chans.as_slice(),
             node,
             attempt,
         )?;
-        Some(self.nodes + place)
+        Some((self.nodes + place, leaf))
+    }
+
+    /// The offset of an attempt's version in the range: none exactly where the node isn't a leaf or has no such attempt.
+    pub fn offset_of_attempt(&self, node: u32, attempt: u32) -> Option<u32>
+        ensures { result ≡ versions.offset_of self.now (meaning.Attempt node attempt) }
+    {
+        let (offset, _leaf) = self.attempt(node, attempt)?;
+        Some(offset)
     }
 
     /// The leaf of this number. None exactly where the node of this number isn't a leaf.
@@ -132,22 +147,14 @@ impl<M, G> Plan<M, G> {
     }
 
     /// What the version at an offset is of: none exactly where the offset isn't below the width.
-    #[tactic(auto, using(crate::proofs::Offsets::node_meaning, crate::proofs::Offsets::past_meaning, crate::proofs::Offsets::attempt_meaning, crate::proofs::Offsets::few_attempts, crate::proofs::Tables::same_length, crate::proofs::Tables::some_counts))]
+    #[tactic(auto, using(crate::proofs::Offsets::node_meaning, crate::proofs::Offsets::attempt_meaning))]
     pub fn meaning_of(&self, offset: u32) -> Option<Meaning>
         ensures { result ≡ versions.meaning_of self.now offset }
     {
         if offset < self.nodes {
             return Some(Meaning::Node(offset));
         }
-        if offset >= self.width {
-            return None;
-        }
-        let (node, attempt) = attempt_at(
-            self.leaves.as_slice(),
-            self.firsts.as_slice(),
-            self.counts.as_slice(),
-            offset - self.nodes,
-        );
-        Some(Meaning::Attempt(node, attempt))
+        let place = offset - self.nodes;
+        meaning_at(self.meanings.as_slice(), place as usize)
     }
 }

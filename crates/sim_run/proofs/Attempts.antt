@@ -65,7 +65,7 @@ mutual
       (weaker (leaf_at_of (node + nodes p) ps) (leaf_at_of node (plan_then p ps)) (λ n h. or-second (leaf_at node p n) (leaf_at_of (node + nodes p) ps n) h)
       (attempt_versions_of (node + nodes p) ps) (all-attempts-leaf (node + nodes p) ps))
 
-means-leaf : (p : Plan MapKind MergeKind) (node attempt offset : ℕ) → meaning_of p offset ≡ Some (Attempt node attempt) → is_some (leaf_at 0 p node) ≡ true
+pub means-leaf : (p : Plan MapKind MergeKind) (node attempt offset : ℕ) → meaning_of p offset ≡ Some (Attempt node attempt) → is_some (leaf_at 0 p node) ≡ true
 unfolding versions meaning_of
 means-leaf p node attempt offset e =
     all-at (HasLeaf (leaf_at 0 p)) (versions p) offset (Attempt node attempt)

@@ -22,6 +22,7 @@ pub mod Named
 pub mod Passing
 pub mod Wiring
 pub mod Closed
+pub mod Shut
 pub mod Streams
 pub mod Ready
 pub mod Replies

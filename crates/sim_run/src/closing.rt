@@ -7,7 +7,7 @@ ghost use Rattle.sim_run.specs.Closing.{closed, closed_one, closed_by};
 
 use crate::ticket::Ticket;
 use crate::wire::Wire;
-use crate::wires::forget;
+use crate::wires::{forget, server_of};
 use rpc_model::{Meaning, Told};
 
 /// What a join told: where that is the call's end, none of its ids waits any more, so that the wires keep those alone that
@@ -29,13 +29,13 @@ pub(crate) fn close_told(
     }
 }
 
-/// No id of the call waits any more.
+/// No id of the call waits any more. The ids of its nodes never do.
 fn close(wires: &mut Vec<Wire>, ticket: &Ticket, call: u32, servers: u32)
     requires low { ticket.now.first < 2 ^ 63 }
     requires served { IsServed servers ticket.now }
     ensures { wires.new.items ≡ closed ticket.now call (width_of ticket.now) wires.old.items }
 {
-    for offset in 0..ticket.plan.width() {
+    for offset in ticket.plan.nodes()..ticket.plan.width() {
         close_one(wires, ticket, call, servers, offset);
     }
 }
@@ -49,8 +49,9 @@ fn close_one(wires: &mut Vec<Wire>, ticket: &Ticket, call: u32, servers: u32, of
     let Some(Meaning::Attempt(node, attempt)) = ticket.plan.meaning_of(offset) else {
         return;
     };
-    let Some(aim) = ticket.aim(call, node, attempt, servers) else {
-        return;
+    let Some(leaf) = ticket.plan.leaf(node) else {
+        unreachable!()
     };
-    forget(wires, aim.server, aim.id);
+    let server = server_of(leaf, call, attempt);
+    forget(wires, server, ticket.first + u64::from(offset));
 }

@@ -33,8 +33,7 @@ impl Ticket {
         ensures none { IfNone result (attempt_id self.now node attempt ≡ None) }
         ensures near { IfSome result (λ aim. aim.id < self.now.first + 2 ^ 32) }
     {
-        let leaf = self.plan.leaf(node)?;
-        let offset = self.plan.offset_of_attempt(node, attempt)?;
+        let (offset, leaf) = self.plan.attempt(node, attempt)?;
         Some(Aim {
             id: self.first + u64::from(offset),
             server: server_of(leaf, call, attempt),
