@@ -103,6 +103,9 @@ pub(crate) fn post(
     requires { first < 2 ^ 63 }
     ensures { OnOk result (wires.new.items ≡ posted first plan.now call sends wires.old.items) }
 {
+    if sends.list().is_empty() {
+        return Ok(());
+    }
     for request in sends.into_vec() {
         post_one(wires, plan, call, first, request)?;
     }
