@@ -1,10 +1,11 @@
 ghost use Rattle.std.specs.Prelude.{◌≡◌, ◌++◌, ◌↔◌, ◌≤◌, ◌-◌, ◌^◌, min, length, pos, IfOk, IfSome, OnOk, OnErr, IsTrue};
 ghost use Rattle.rpc_meta.specs.Meta.{meta_bytes};
 ghost use Rattle.rpc_meta.specs.Appending.{Begins};
-ghost use Rattle.prpc_frames.specs.Stream.Spelling.{header_bytes, body_bytes, frame_bytes, frame_of, IsTold, IsFitting};
+ghost use Rattle.prpc_frames.specs.Stream.Spelling.{number_bytes, header_bytes, body_bytes, frame_bytes, frame_of, IsTold, IsFitting};
 
 use crate::frame::Frame;
 use crate::header::{HEADER, MAGIC, MOST, Sizes};
+use byteorder::{BigEndian, ByteOrder};
 use rpc_base::NoMemory;
 use rpc_meta::{Meta, is_writable, spelled_len, write_meta};
 
@@ -65,13 +66,24 @@ fn sizes_of(meta: &Meta, payload: &[u8], attachment: &[u8]) -> Sizes
     }
 }
 
+/// A number of 32 bits in network order.
+#[inline(always)]
+#[tactic(auto, unfolding(crate::specs::Stream::Spelling::number_bytes))]
+fn spelled(number: u32) -> [u8; 4]
+    ensures { result ≡ number_bytes number }
+{
+    let mut bytes = [0u8; 4];
+    BigEndian::write_u32(&mut bytes, number);
+    bytes
+}
+
 /// The header: the magic, and how many bytes the body and the meta have, in network order.
 #[tactic(auto, unfolding(crate::specs::Stream::Spelling::number_bytes))]
 fn header_of(body: u32, meta: u32) -> [u8; HEADER]
     ensures { result ≡ header_bytes body meta }
 {
-    let body = body.to_be_bytes();
-    let meta = meta.to_be_bytes();
+    let body = spelled(body);
+    let meta = spelled(meta);
     [
         MAGIC[0], MAGIC[1], MAGIC[2], MAGIC[3], body[0], body[1], body[2], body[3], meta[0],
         meta[1], meta[2], meta[3],
