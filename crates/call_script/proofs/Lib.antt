@@ -2,6 +2,7 @@ pub mod Begun
 pub mod Depths
 pub mod Digits
 pub mod Each
+pub mod FewWords
 pub mod Heads
 pub mod Kept
 pub mod Places

@@ -4,4 +4,5 @@ pub mod Judged
 pub mod Named
 pub mod Places
 pub mod Sized
+pub mod Spelled
 pub mod Within

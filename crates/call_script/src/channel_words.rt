@@ -7,7 +7,7 @@ ghost use Rattle.call_script.specs.Judged.{Gives};
 
 use crate::cut::cut;
 use crate::fault::LineFault;
-use crate::words::{is_name, number_or, position_of};
+use crate::words::{is_name, is_text, number_or, position_of};
 use rpc_model::{Cause, MapKind, MergeKind, TAG_LIMIT};
 use std::alloc::Global;
 
@@ -16,19 +16,19 @@ use std::alloc::Global;
 pub(crate) fn map_word(word: &[u8]) -> Result<MapKind, Cause>
     ensures { result ≡ spec.map_word word.now }
 {
-    if *word == *b"same".as_slice() {
+    if is_text(word, b"same") {
         return Ok(MapKind::Same);
     }
-    if *word == *b"index".as_slice() {
+    if is_text(word, b"index") {
         return Ok(MapKind::Index);
     }
-    if *word == *b"split".as_slice() {
+    if is_text(word, b"split") {
         return Ok(MapKind::Split);
     }
-    if *word == *b"skip".as_slice() {
+    if is_text(word, b"skip") {
         return Ok(MapKind::Skip);
     }
-    if *word == *b"bad".as_slice() {
+    if is_text(word, b"bad") {
         return Ok(MapKind::Bad);
     }
     Err(Cause::BadSub)
@@ -39,16 +39,16 @@ pub(crate) fn map_word(word: &[u8]) -> Result<MapKind, Cause>
 pub(crate) fn merge_word(word: &[u8]) -> Result<MergeKind, Cause>
     ensures { result ≡ spec.merge_word word.now }
 {
-    if *word == *b"cat".as_slice() {
+    if is_text(word, b"cat") {
         return Ok(MergeKind::Cat);
     }
-    if *word == *b"sum".as_slice() {
+    if is_text(word, b"sum") {
         return Ok(MergeKind::Sum);
     }
-    if *word == *b"same".as_slice() {
+    if is_text(word, b"same") {
         return Ok(MergeKind::Same);
     }
-    if *word == *b"drop".as_slice() {
+    if is_text(word, b"drop") {
         return Ok(MergeKind::Drop);
     }
     Err(Cause::BadSub)

@@ -5,6 +5,7 @@ ghost use Rattle.rpc_model.specs.Before.{nothing};
 ghost use Rattle.rpc_model.specs.Fits.{Fits};
 ghost use Rattle.call_script.specs.Judged.{Reads, SaysLines, line_fault_at};
 
+use crate::cut::{FEW, Few};
 use crate::fault::{LineFault, ScriptFault};
 use crate::reader::Reader;
 use rpc_model::{Cause, Mode, SCRIPT_LIMIT, Script};
@@ -32,9 +33,10 @@ fn read_lines(alloc: Global, mode: Mode, bytes: &[u8]) -> Result<Reader, ScriptF
     ensures { SaysLines result (lines_say 1 (nothing mode) (slice_split (λ b. b == 10) bytes.now)) }
 {
     let mut reader = Reader::new(alloc, mode);
+    let mut few: Few<'_> = [bytes; FEW];
     let mut number = 1u32;
     for line in bytes.split(|b| *b == b'\n') {
-        match reader.line_says(line) {
+        match reader.line_says(line, &mut few) {
             Ok(()) => number += 1,
             Err(fault) => return Err(fault_at(number, fault)),
         }

@@ -1,10 +1,11 @@
 //! The words of a line: numbers, names, texts and options, each with the cause for which it is refused.
 
-ghost use Rattle.std.specs.Prelude.{◌≡◌, ℕ, ◌+◌, ◌^◌, ◌<◌, ◌≤◌, Ok, Err, MatchOption, IfSome, IfOk, length, position, ◌==◌};
+ghost use Rattle.std.specs.Prelude.{◌≡◌, ℕ, ◌+◌, ◌^◌, ◌<◌, ◌≤◌, Ok, Err, MatchOption, IfSome, IfOk, length, position, ◌==◌, bytes_eq};
 ghost use Rattle.std.specs.List.{list_all};
 ghost use Rattle.std.specs.Option.{option_map};
 ghost use Rattle.std.specs.Result.{result_map_both};
 ghost use Rattle.rpc_model.specs.Words as spec;
+ghost use Rattle.call_script.specs.Spelled.{IsNumber};
 ghost use Rattle.rpc_model.specs.Limits.{IsSpelled, IsWait};
 
 use rpc_model::{CODE_LIMIT, Cause, DELAY_LIMIT, Direction, NAME_LIMIT, TEXT_LIMIT, WAIT_LIMIT};
@@ -16,14 +17,34 @@ pub(crate) fn all_within(bytes: &[u8], low: u8, high: u8) -> bool
     bytes.iter().all(|b| low <= *b && *b <= high)
 }
 
-/// The number that the digits spell, where it is at most `high`.
+/// Whether the word is this text. Where the text stands in the code, this is a test of the length and of each byte.
+#[inline(always)]
+pub(crate) fn is_text(word: &[u8], text: &[u8]) -> bool
+    ensures { result ≡ bytes_eq word.now text.now }
+{
+    if word.len() != text.len() {
+        return false;
+    }
+    for at in 0..text.len() {
+        if word[at] != text[at] {
+            return false;
+        }
+    }
+    true
+}
+
+/// The number that the word spells, where all its bytes are digits and it is at most `high`.
 fn digits(word: &[u8], high: u64) -> Option<u64>
     requires { high < 2 ^ 60 }
-    ensures { MatchOption result (high < spec.digits_after 0 word.now) (λ n. (n ≡ spec.digits_after 0 word.now) × (n ≤ high)) }
+    ensures { IsNumber result (spec.all_within 48 57 word.now) word.now high }
 {
     let mut number = 0u64;
-    for digit in word {
-        number = 10 * number + u64::from(digit.saturating_sub(b'0'));
+    for byte in word {
+        let digit = byte.wrapping_sub(b'0');
+        if digit > 9 {
+            return None;
+        }
+        number = 10 * number + u64::from(digit);
         if number > high {
             return None;
         }
@@ -31,14 +52,18 @@ fn digits(word: &[u8], high: u64) -> Option<u64>
     Some(number)
 }
 
-/// Whether the word is decimal digits without a needless leading zero.
-fn is_numeral(word: &[u8]) -> bool
-    ensures { result ≡ spec.is_numeral word.now }
+/// The number that a word of decimal digits without a needless leading zero spells, where it is at most `high`.
+fn numeral(word: &[u8], high: u64) -> Option<u64>
+    requires { high < 2 ^ 60 }
+    ensures { IsNumber result (spec.is_numeral word.now) word.now high }
 {
-    match word {
-        [] => false,
-        [first, rest @ ..] => all_within(word, b'0', b'9') && (rest.is_empty() || *first != b'0'),
+    let Some((first, rest)) = word.split_first() else {
+        return None;
+    };
+    if *first == b'0' && !rest.is_empty() {
+        return None;
     }
+    digits(word, high)
 }
 
 /// A number of `low` to `high`, or the cause where the word isn't one.
@@ -49,10 +74,7 @@ pub(crate) fn number_or(cause: Cause, word: &[u8], low: u64, high: u64) -> Resul
     ensures bound { IfOk result (λ n. n ≤ high) }
     ensures floor { IfOk result (λ n. low ≤ n) }
 {
-    if !is_numeral(word) {
-        return Err(cause);
-    }
-    let Some(number) = digits(word, high) else {
+    let Some(number) = numeral(word, high) else {
         return Err(cause);
     };
     if low <= number {
@@ -101,7 +123,7 @@ pub(crate) fn text(word: &[u8]) -> Result<&[u8], Cause>
     if word.len() > TEXT_LIMIT {
         return Err(Cause::TextTooLong);
     }
-    Ok(if *word == *b"-".as_slice() { &[] } else { word })
+    Ok(if is_text(word, b"-") { &[] } else { word })
 }
 
 /// What stands behind the key of a word `key=value`; the key is given with its `=`.
@@ -120,7 +142,7 @@ fn wait(word: &[u8]) -> Result<Option<u32>, Cause>
     ensures value { result ≡ spec.wait word.now }
     ensures bound { IfOk result IsWait }
 {
-    if *word == *b"-1".as_slice() {
+    if is_text(word, b"-1") {
         return Ok(None);
     }
     let millis = number(word, 1, WAIT_LIMIT)?;
@@ -174,16 +196,16 @@ pub(crate) fn direction_word(word: &[u8]) -> Result<Direction, Cause>
     ensures value { result ≡ spec.direction_word word.now }
     ensures bound { IfOk result IsSpelled }
 {
-    if *word == *b"ok".as_slice() {
+    if is_text(word, b"ok") {
         return Ok(Direction::Plain);
     }
-    if *word == *b"drop".as_slice() {
+    if is_text(word, b"drop") {
         return Ok(Direction::Drop);
     }
-    if *word == *b"twice".as_slice() {
+    if is_text(word, b"twice") {
         return Ok(Direction::Twice);
     }
-    if *word == *b"close".as_slice() {
+    if is_text(word, b"close") {
         return Ok(Direction::Close);
     }
     if let Some(code) = word.strip_prefix(b"err=") {

@@ -6,20 +6,20 @@ ghost use Rattle.rpc_model.specs.Lines as spec;
 ghost use Rattle.call_script.specs.Judged.{Judged};
 
 use super::Reader;
-use crate::cut::cut;
+use crate::cut::{Few, cut, few_words};
 use crate::fault::LineFault;
 use crate::reader::part_lines::PartOptions;
-use crate::words::all_within;
+use crate::words::{all_within, is_text};
 use rpc_model::{Cause, LINE_LIMIT, SUB_LIMIT};
 
 impl Reader {
     fn two_words(&mut self, kind: &[u8], word: &[u8]) -> Result<(), LineFault>
         ensures { Judged result self.new (spec.two_words self.old kind.now word.now) }
     {
-        if *kind == *b"open".as_slice() {
+        if is_text(kind, b"open") {
             return self.open_line(word);
         }
-        if *kind == *b"join".as_slice() {
+        if is_text(kind, b"join") {
             return self.join_line(word);
         }
         Err(LineFault::Refused(Cause::BadLine))
@@ -28,7 +28,7 @@ impl Reader {
     fn three_words(&mut self, kind: &[u8], at: &[u8], what: &[u8]) -> Result<(), LineFault>
         ensures { Judged result self.new (spec.three_words self.old kind.now at.now what.now) }
     {
-        if *kind == *b"at".as_slice() && *what == *b"tick".as_slice() {
+        if is_text(kind, b"at") && is_text(what, b"tick") {
             return self.tick_line(at);
         }
         Err(LineFault::Refused(Cause::BadLine))
@@ -43,7 +43,7 @@ impl Reader {
     ) -> Result<(), LineFault>
         ensures { Judged result self.new (spec.four_words self.old kind.now at.now what.now call.now) }
     {
-        if *kind == *b"at".as_slice() && *what == *b"cancel".as_slice() {
+        if is_text(kind, b"at") && is_text(what, b"cancel") {
             return self.cancel_line(at, call);
         }
         Err(LineFault::Refused(Cause::BadLine))
@@ -60,16 +60,16 @@ impl Reader {
     ) -> Result<(), LineFault>
         ensures { Judged result self.new (spec.six_words self.old kind.now a.now b.now c.now d.now e.now) }
     {
-        if *kind == *b"leaf".as_slice() {
+        if is_text(kind, b"leaf") {
             return self.leaf_line(a, b, c, d, e);
         }
-        if *kind != *b"at".as_slice() {
+        if !is_text(kind, b"at") {
             return Err(LineFault::Refused(Cause::BadLine));
         }
-        if *b == *b"call".as_slice() {
+        if is_text(b, b"call") {
             return self.call_line(a, c, d, e);
         }
-        if *b == *b"lose".as_slice() {
+        if is_text(b, b"lose") {
             return self.lose_line(a, c, d, e);
         }
         Err(LineFault::Refused(Cause::BadLine))
@@ -87,7 +87,7 @@ impl Reader {
     ) -> Result<(), LineFault>
         ensures { Judged result self.new (spec.seven_words self.old kind.now at.now what.now call.now attempt.now code.now text.now) }
     {
-        if *kind == *b"at".as_slice() && *what == *b"reply".as_slice() {
+        if is_text(kind, b"at") && is_text(what, b"reply") {
             return self.reply_line(at, call, attempt, code, text);
         }
         Err(LineFault::Refused(Cause::BadLine))
@@ -205,13 +205,20 @@ impl Reader {
         self.kind_says(words)
     }
 
-    /// One more line.
+    /// One more line. The words of a line that has few of them are put into `few`.
     #[tactic(auto, unfolding(rpc_model::specs::Lines::line_says))]
-    pub(crate) fn line_says(&mut self, line: &[u8]) -> Result<(), LineFault>
+    pub(crate) fn line_says<'a>(
+        &mut self,
+        line: &'a [u8],
+        few: &mut Few<'a>,
+    ) -> Result<(), LineFault>
         ensures { Judged result self.new (spec.line_says self.old line.now) }
     {
         if line.len() > LINE_LIMIT {
             return Err(LineFault::Refused(Cause::LineTooLong));
+        }
+        if let Some(count) = few_words(line, few) {
+            return self.kind_says(&few[..count]);
         }
         if !all_within(line, b' ', b'~') {
             return Err(LineFault::Refused(Cause::BadByte));
@@ -248,6 +255,7 @@ fn has_list(few: usize, count: usize) -> bool
 }
 
 /// Whether the line is of this kind, with so few words ahead of its list.
+#[inline(always)]
 fn is_kind(words: &[&[u8]], kind: &[u8], few: usize) -> bool
     requires { few ≤ 9 }
     ensures kind { result ≡ spec.is_kind kind.now few (map (λ w. w.now) words.now) }
@@ -256,5 +264,5 @@ fn is_kind(words: &[&[u8]], kind: &[u8], few: usize) -> bool
     let Some((first, rest)) = words.split_first() else {
         return false;
     };
-    **first == *kind && has_list(few, rest.len() + 1)
+    is_text(first, kind) && has_list(few, rest.len() + 1)
 }
