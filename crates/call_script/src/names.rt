@@ -4,10 +4,14 @@ ghost use Rattle.std.specs.Prelude.{◌≡◌, ◌<◌, [], ◌∷◌, ◌++◌,
 ghost use Rattle.rpc_model.specs.Words.{index_of};
 
 use crate::fault::LineFault;
+use crate::words::is_text;
 use rpc_base::Bytes;
 use std::alloc::Global;
 use std::collections::BTreeMap;
 use std::marker::Model;
+
+/// So many names are looked at one after the other, which takes less time than a search of the tree.
+const FEW_NAMES: usize = 16;
 
 /// Names in the order of their first mention, each once. A name is found in a time that grows with the logarithm of
 /// their count.
@@ -52,6 +56,9 @@ impl Names {
         ensures value { result ≡ index_of self.now name.now }
         ensures bound { IfSome result (λ at. at < length self.now) }
     {
+        if self.names.len() <= FEW_NAMES {
+            return place_among(&self.names, name);
+        }
         self.places.get(name).copied()
     }
 
@@ -74,4 +81,11 @@ impl Names {
             }
         }
     }
+}
+
+/// Where a name stands among these.
+fn place_among(names: &[Bytes], name: &[u8]) -> Option<usize>
+    ensures { result ≡ index_of names.now name.now }
+{
+    names.iter().position(|known| is_text(known.list(), name))
 }
