@@ -3,8 +3,9 @@
 ghost use Rattle.std.specs.Prelude.{◌≡◌, ◌<◌, ◌≤◌, ◌==◌, not, map, take, length, position, IfOk, IfSome};
 ghost use Rattle.std.specs.List.{slice_split};
 ghost use Rattle.std.specs.Char.{is_ascii_graphic};
-ghost use Rattle.call_script.specs.Spelled.{AreFewWords};
+ghost use Rattle.call_script.specs.Spelled.{AreFewWords, line_of};
 
+use crate::words::position_of;
 use smallvec::SmallVec;
 use std::alloc::{AllocError, Global};
 
@@ -26,31 +27,70 @@ pub(crate) fn cut<'a>(alloc: Global, bytes: &'a [u8], at: u8) -> Result<Pieces<'
     Ok(pieces)
 }
 
-/// How many words a line has, which then stand first in `few`: where each byte is right, no word is empty, `few` has
-/// room for them, and the line is no comment. Each byte is looked at once.
-pub(crate) fn few_words<'a>(line: &'a [u8], few: &mut Few<'a>) -> Option<usize>
-    ensures words { IfSome result (λ count. AreFewWords line.now (map (λ w. w.now) (take count few.new))) }
-    ensures room { IfSome result (λ count. count ≤ 8) }
+/// How many words a line has, and how many bytes.
+#[derive(Clone, Copy)]
+pub(crate) struct FewWords {
+    pub(crate) count: usize,
+    pub(crate) length: usize,
+}
+
+/// The words of the first line of a text, which then stand first in `few`: where each byte is right, no word is empty,
+/// `few` has room for them, and the line is no comment. Each byte is looked at once, the newline too.
+pub(crate) fn few_words<'a>(text: &'a [u8], few: &mut Few<'a>) -> Option<FewWords>
+    ensures words { IfSome result (λ found. AreFewWords (line_of text.now) (map (λ w. w.now) (take found.count few.new))) }
+    ensures room { IfSome result (λ found. found.count ≤ 8) }
+    ensures length { IfSome result (λ found. found.length ≡ length (line_of text.now)) }
 {
-    if line.starts_with(b"#") {
+    if text.starts_with(b"#") {
         return None;
     }
-    let mut rest = line;
+    let mut rest = text;
     let mut count = 0;
     while let Some(at) = special_byte(rest) {
         let (word, behind) = rest.split_at(at);
-        if at == 0 || behind[0] != b' ' || count == FEW {
+        if at == 0 || count == FEW {
             return None;
         }
         few[count] = word;
         count += 1;
+        if behind[0] == b'\n' {
+            let length = text.len() - behind.len();
+            return Some(FewWords { count, length });
+        }
+        if behind[0] != b' ' {
+            return None;
+        }
         rest = &behind[1..];
     }
     if rest.is_empty() || count == FEW {
         return None;
     }
     few[count] = rest;
-    Some(count + 1)
+    Some(FewWords {
+        count: count + 1,
+        length: text.len(),
+    })
+}
+
+/// How many bytes the first line of a text has, where this is what was found of its words.
+pub(crate) fn line_length(text: &[u8], found: Option<FewWords>) -> usize
+    requires { IfSome found (λ found. found.length ≡ length (line_of text.now)) }
+    ensures { result ≡ length (line_of text.now) }
+{
+    match found {
+        Some(words) => words.length,
+        None => newline_place(text),
+    }
+}
+
+/// Where the first newline stands, or the end.
+fn newline_place(text: &[u8]) -> usize
+    ensures { result ≡ length (line_of text.now) }
+{
+    match position_of(text, b'\n') {
+        Some(at) => at,
+        None => text.len(),
+    }
 }
 
 /// Where the first byte stands that is no part of a word.

@@ -5,7 +5,7 @@ ghost use Rattle.rpc_model.specs.Before.{nothing};
 ghost use Rattle.rpc_model.specs.Fits.{Fits};
 ghost use Rattle.call_script.specs.Judged.{Reads, SaysLines, line_fault_at};
 
-use crate::cut::{FEW, Few};
+use crate::cut::{FEW, Few, few_words, line_length};
 use crate::fault::{LineFault, ScriptFault};
 use crate::reader::Reader;
 use rpc_model::{Cause, Mode, SCRIPT_LIMIT, Script};
@@ -35,13 +35,19 @@ fn read_lines(alloc: Global, mode: Mode, bytes: &[u8]) -> Result<Reader, ScriptF
     let mut reader = Reader::new(alloc, mode);
     let mut few: Few<'_> = [bytes; FEW];
     let mut number = 1u32;
-    for line in bytes.split(|b| *b == b'\n') {
-        match reader.line_says(line, &mut few) {
-            Ok(()) => number += 1,
-            Err(fault) => return Err(fault_at(number, fault)),
+    let mut rest = bytes;
+    'lines: loop {
+        let found = few_words(rest, &mut few);
+        let (line, behind) = rest.split_at(line_length(rest, found));
+        if let Err(fault) = reader.line_says(line, found, &few) {
+            return Err(fault_at(number, fault));
         }
+        let Some((_, lines)) = behind.split_first() else {
+            return Ok(reader);
+        };
+        rest = lines;
+        number += 1;
     }
-    Ok(reader)
 }
 
 /// The fault of a script whose line of this number has this fault.

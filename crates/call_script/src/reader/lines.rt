@@ -1,12 +1,13 @@
 //! A line by its words.
 
-ghost use Rattle.std.specs.Prelude.{◌≡◌, ◌+◌, ◌<◌, ◌≤◌, IsTrue, map, length};
+ghost use Rattle.std.specs.Prelude.{◌≡◌, ◌+◌, ◌<◌, ◌≤◌, IsTrue, map, take, length, IfSome};
 ghost use Rattle.std.specs.List.{list_all};
 ghost use Rattle.rpc_model.specs.Lines as spec;
 ghost use Rattle.call_script.specs.Judged.{Judged};
+ghost use Rattle.call_script.specs.Spelled.{AreFewWords};
 
 use super::Reader;
-use crate::cut::{Few, cut, few_words};
+use crate::cut::{Few, FewWords, cut};
 use crate::fault::LineFault;
 use crate::reader::part_lines::PartOptions;
 use crate::words::{all_within, is_text};
@@ -205,20 +206,23 @@ impl Reader {
         self.kind_says(words)
     }
 
-    /// One more line. The words of a line that has few of them are put into `few`.
+    /// One more line, where this is what was found of its words, which then stand first in `few`.
     #[tactic(auto, unfolding(rpc_model::specs::Lines::line_says))]
-    pub(crate) fn line_says<'a>(
+    pub(crate) fn line_says(
         &mut self,
-        line: &'a [u8],
-        few: &mut Few<'a>,
+        line: &[u8],
+        found: Option<FewWords>,
+        few: &Few<'_>,
     ) -> Result<(), LineFault>
+        requires words { IfSome found (λ found. AreFewWords line.now (map (λ w. w.now) (take found.count few.now))) }
+        requires room { IfSome found (λ found. found.count ≤ 8) }
         ensures { Judged result self.new (spec.line_says self.old line.now) }
     {
         if line.len() > LINE_LIMIT {
             return Err(LineFault::Refused(Cause::LineTooLong));
         }
-        if let Some(count) = few_words(line, few) {
-            return self.kind_says(&few[..count]);
+        if let Some(words) = found {
+            return self.kind_says(&few[..words.count]);
         }
         if !all_within(line, b' ', b'~') {
             return Err(LineFault::Refused(Cause::BadByte));

@@ -1,33 +1,41 @@
--- One more line is judged; the lines are those that `split` yields.
-use Rattle.std.proofs.Common.{rules, ◌==◌, length, sym, ◌∙◌, arith, length-append}
-use Rattle.std.proofs.lemmas.Iterator.Consumers.{YieldsList-turn, YieldsList-end}
-use Rattle.std.proofs.lemmas.Iterator.Splits.{YieldsList-from_slice_split}
-use Rattle.call_script.proofs.Said.{said-accepted, said-fault, said-all}
+-- One more line is judged, and what stands behind it is left.
+use Rattle.std.proofs.Common.{ℕ, ◌+◌, List, length, map, take, sym, subst, ap, ◌∙◌, arith, length-drop}
+use Rattle.std.specs.Prelude.{IfSome}
+use Rattle.rpc_model.specs.Script.{lines_say}
+use Rattle.call_script.specs.Spelled.{AreFewWords}
+use Rattle.call_script.proofs.Said.{line_taken, line_short, lines_from, lines_none, said-accepted, said-fault}
 use Rattle.call_script.proofs.reading.read_lines.Goals as goal
 
-pub loop-line-preserved : goal.loop-line-preserved
-loop-line-preserved c =
-    let turn = YieldsList-turn
-    (YieldsList-from_slice_split {s = c.into_iter-line-iterator.result} _ (λ b. b == 10) c.args.bytes.now (search rules)
-    (search rules) c.split-line-items.ensures.closure (λ x b q h. search rules))
-    c.loop-line.yielded _ c.loop-line.yielded_by _ c.next.new.self c.in-Some.line c.in-Some.is c.next.ensures.steps in
-    record {
-      said = simp length-append (sym (said-accepted _ _ _ _ (length c.loop-line.yielded) c.in-Some.line.now turn.0 turn.1 c.in-Ok.ensures) ∙ c.loop-line.invariant.said);
-      counted = simp length-append (omega (arith, c.loop-line.invariant.counted));
-    }
+pub split_at-requires : goal.split_at-requires
+split_at-requires c = omega (arith, c.line_length.ensures, line_short c.lines.rest.now)
+
+pub line_says-requires-clause-words : goal.line_says-requires-clause-words
+line_says-requires-clause-words c =
+    let line = line_taken c.lines.rest.now c.split_at.result.0.now c.line_length.result c.split_at.ensures.front c.line_length.ensures in
+    subst (λ z. IfSome c.few_words-found.result (λ found. AreFewWords z (map (λ w. w.now) (take found.count c.few_words-found.new.few)))) (sym line) c.few_words-found.ensures.words
 
 pub returns-in-Err : goal.returns-in-Err
 returns-in-Err c =
-    let turn = YieldsList-turn
-    (YieldsList-from_slice_split {s = c.into_iter-line-iterator.result} _ (λ b. b == 10) c.args.bytes.now (search rules)
-    (search rules) c.split-line-items.ensures.closure (λ x b q h. search rules))
-    c.loop-line.yielded _ c.loop-line.yielded_by _ c.next.new.self c.in-Some.line c.in-Some.is c.next.ensures.steps in
-    rw (c.fault_at.ensures, ← c.loop-line.invariant.said)
-    (said-fault c.loop-line.number _ c.line_says.new.self c.in-Err.fault _ (length c.loop-line.yielded) c.in-Some.line.now turn.0 turn.1 c.in-Err.ensures)
+    let line = line_taken c.lines.rest.now c.split_at.result.0.now c.line_length.result c.split_at.ensures.front c.line_length.ensures in
+    rw (c.fault_at.ensures, ← c.lines.invariant.said)
+    (said-fault c.lines.number c.lines.reader c.line_says.new.self c.in-Err.fault c.lines.rest.now c.split_at.result.0.now line c.in-Err.ensures)
 
-pub returns : goal.returns
-returns c =
-    let all = YieldsList-end (YieldsList-from_slice_split {s = c.into_iter-line-iterator.result} _ (λ b. b == 10) c.args.bytes.now
-    (search rules) (search rules) c.split-line-items.ensures.closure (λ x b q h. search rules))
-    c.loop-line.yielded _ c.loop-line.yielded_by _ c.next.new.self c.in-None.is c.next.ensures.steps in
-    sym c.loop-line.invariant.said ∙ said-all _ _ _ (length c.loop-line.yielded) all.1
+pub returns-in_default-split_first : goal.returns-in_default-split_first
+returns-in_default-split_first c =
+    let line = line_taken c.lines.rest.now c.split_at.result.0.now c.line_length.result c.split_at.ensures.front c.line_length.ensures in
+    sym c.lines.invariant.said
+    ∙ said-accepted c.lines.number c.lines.reader c.line_says.new.self c.lines.rest.now c.split_at.result.0.now c.split_at.result.1.now c.line_length.result line
+    c.split_at.ensures.back c.line_length.ensures c.in_default.ensures
+    ∙ ap (lines_say (c.lines.number + 1) c.line_says.new.self) (lines_none c.split_at.result.1.now c.in_default-split_first.ensures.cases)
+
+pub lines-preserved : goal.lines-preserved
+lines-preserved c =
+    let line = line_taken c.lines.rest.now c.split_at.result.0.now c.line_length.result c.split_at.ensures.front c.line_length.ensures in
+    let more = c.in-Some.ensures.cases in
+    let back = c.split_at.ensures.back in
+    record {
+      said = sym (said-accepted c.lines.number c.lines.reader c.line_says.new.self c.lines.rest.now c.split_at.result.0.now c.split_at.result.1.now c.line_length.result line
+          back c.line_length.ensures c.in_default.ensures
+          ∙ ap (λ (bytes : List ℕ). lines_say (c.lines.number + 1) c.line_says.new.self (lines_from bytes)) more.0) ∙ c.lines.invariant.said;
+      counted = omega (arith, more.1, ap length back, length-drop c.line_length.result c.lines.rest.now, c.lines.invariant.counted);
+    }
