@@ -80,6 +80,13 @@ struct Output {
     status: Status,
 }
 
+/// Gives memory back. It is made small first: the C library's `malloc` takes a large piece that is freed for a sign that
+/// pieces of its size come and go, and puts later ones, up to that size, where they are copied as they grow.
+fn give_back(mut bytes: Vec<u8>) {
+    bytes.clear();
+    bytes.shrink_to(1);
+}
+
 /// The bytes are given back before the replay begins, so that it holds nothing twice.
 fn output_of(alloc: Global, bytes: Vec<u8>) -> Result<Output, NoMemory>
     ensures text { IfOk result (λ o. o.text.items ≡ output (script mode.Sim bytes.items)) }
@@ -87,7 +94,7 @@ fn output_of(alloc: Global, bytes: Vec<u8>) -> Result<Output, NoMemory>
 {
     match read_script(alloc, Mode::Sim, &bytes) {
         Ok(script) => {
-            drop(bytes);
+            give_back(bytes);
             let mut told = Vec::new(alloc);
             replay(alloc, &script, &mut told)?;
             Ok(Output {
