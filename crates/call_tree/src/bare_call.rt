@@ -7,11 +7,11 @@ ghost use Rattle.call_tree.specs.Running.{kinds_of, bare_by, IsEffects};
 
 use crate::effects::Effects;
 use crate::nodes::Tree;
-use crate::outbox::Outbox;
+use crate::outbox::{Outbox, Spare};
 use crate::starting::start;
 use chan_tree::Plan;
 use rpc_base::{Bytes, List, NoMemory};
-use rpc_model::{End, Event, Mapper, MarkAt, Merger};
+use rpc_model::{End, Event, Mapper, Merger};
 use std::alloc::Global;
 use std::marker::Model;
 use std::sync::Arc;
@@ -50,20 +50,20 @@ impl<M: Mapper + Copy, G: Merger + Copy> BareCall<M, G> {
     ///
     /// It answers the call and what goes out at once: the first requests, and the marks of deadlines and backup requests.
     /// A call may have an end already, as where a mapper refuses its request. What a start does is in brpc's documents on
-    /// the client and on combination channels. The marks are put into the room of the list `spare`, whose own marks are
-    /// dropped, so that many calls may use one list in turn. After want of memory nothing is left behind.
+    /// the client and on combination channels. What goes out is put into the room of `spare`. After want of memory nothing
+    /// is left behind.
     pub fn begin(
         alloc: Global,
         plan: Arc<Plan<M, G>>,
         call: u32,
         request: Bytes,
         moment: u64,
-        spare: Vec<MarkAt>,
+        spare: Spare,
     ) -> Result<(BareCall<M, G>, Effects), NoMemory>
         requires early { moment < 2 ^ 60 }
         ensures begun { IfOk result (λ r. let run = start (kinds_of M.answer G.answer) (arc_value plan) call request moment in (r.0 ≡ bare_by (arc_value plan) call run) × IsEffects run r.1) }
     {
-        let mut out = Outbox::new(alloc, spare);
+        let mut out = Outbox::new(spare);
         let tree = start(alloc, plan.tree(), request, 0, call, moment, &mut out)?;
         let effects = effects_of(out, &tree);
         let begun = BareCall { plan, call, tree };
@@ -73,21 +73,21 @@ impl<M: Mapper + Copy, G: Merger + Copy> BareCall<M, G> {
     /// Applies an event at a moment in milliseconds.
     ///
     /// It answers what this made the call do. An event that names no node or no attempt of the plan, or one that has an end
-    /// or was replaced, does nothing. The marks are put into the room of the list `spare`, whose own marks are dropped.
-    /// After want of memory the call is as it was before.
+    /// or was replaced, does nothing. What goes out is put into the room of `spare`. After want of memory the call is as it
+    /// was before.
     pub fn apply(
         &mut self,
         alloc: Global,
         event: Event,
         moment: u64,
-        spare: Vec<MarkAt>,
+        spare: Spare,
     ) -> Result<Effects, NoMemory>
         requires early { moment < 2 ^ 60 }
         ensures applied { OnOk result (self.new ≡ record self.old { state = (step (kinds_of M.answer G.answer) self.old.call self.old.state event moment).state }) }
         ensures effects { IfOk result (λ effects. IsEffects (step (kinds_of M.answer G.answer) self.old.call self.old.state event moment) effects) }
         ensures kept { OnErr result (self.new ≡ self.old) }
     {
-        let mut out = Outbox::new(alloc, spare);
+        let mut out = Outbox::new(spare);
         self.tree.step(alloc, self.plan.nodes(), self.call, event, moment, &mut out)?;
         Ok(effects_of(out, &self.tree))
     }

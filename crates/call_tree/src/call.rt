@@ -8,6 +8,7 @@ ghost use Rattle.call_tree.specs.Running.{kinds_of, entry_of, begun_by, stepped_
 use crate::bare_call::BareCall;
 use crate::effects::Effects;
 use crate::happening::event_copy;
+use crate::outbox::Spare;
 use chan_tree::Plan;
 use rpc_base::{Bytes, NoMemory};
 use rpc_model::{End, Entry, Event, Mapper, Merger, Origin};
@@ -54,7 +55,14 @@ impl<M: Mapper + Copy, G: Merger + Copy> Call<M, G> {
         requires early { moment < 2 ^ 60 }
         ensures begun { IfOk result (λ r. let run = start (kinds_of M.answer G.answer) (arc_value plan) call request moment in (r.0 ≡ begun_by (arc_value plan) call run) × IsEffects run r.1) }
     {
-        let (bare, effects) = BareCall::begin(alloc, plan, call, request, moment, Vec::new(alloc))?;
+        let (bare, effects) = BareCall::begin(
+            alloc,
+            plan,
+            call,
+            request,
+            moment,
+            Spare::new(alloc),
+        )?;
         let begun = Call {
             bare,
             log: Vec::new(alloc),
@@ -80,7 +88,7 @@ impl<M: Mapper + Copy, G: Merger + Copy> Call<M, G> {
     {
         self.log.reserve(1)?;
         let again = event_copy(alloc, &event)?;
-        let effects = self.bare.apply(alloc, again, moment, Vec::new(alloc))?;
+        let effects = self.bare.apply(alloc, again, moment, Spare::new(alloc))?;
         self.log.push_reserved(Entry {
             event,
             moment,

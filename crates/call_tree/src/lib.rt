@@ -25,6 +25,7 @@ pub use bare_call::BareCall;
 pub use call::Call;
 pub use effects::Effects;
 pub use laws::calls_are_the_machines_of_their_logs;
+pub use outbox::Spare;
 pub use rpc_model::{MarkAt, Send};
 
 #[cfg(test)]

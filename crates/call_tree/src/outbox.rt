@@ -5,6 +5,25 @@ use rpc_base::{Bytes, NoMemory};
 use rpc_model::{LeafChan, MarkAt, Send};
 use std::alloc::Global;
 
+/// Room for what goes out on a step: two lists whose own items are dropped, so that many steps may use them in turn.
+#[derive(Drop)]
+pub struct Spare {
+    /// Room for the requests.
+    pub sends: Vec<Send>,
+    /// Room for the marks.
+    pub marks: Vec<MarkAt>,
+}
+
+impl Spare {
+    /// No room yet. It takes no memory.
+    pub fn new(alloc: Global) -> Spare {
+        Spare {
+            sends: Vec::new(alloc),
+            marks: Vec::new(alloc),
+        }
+    }
+}
+
 /// What goes out on a step so far, in order.
 #[derive(Drop)]
 pub(crate) struct Outbox {
@@ -13,17 +32,18 @@ pub(crate) struct Outbox {
 }
 
 impl Outbox {
-    /// Nothing went out yet. The marks come into the room of the list that is given, whose own marks are dropped.
-    pub(crate) fn new(alloc: Global, spare: Vec<MarkAt>) -> Outbox
+    /// Nothing went out yet. What goes out comes into the room that is given.
+    pub(crate) fn new(spare: Spare) -> Outbox
         ensures sends { result.sends.items ≡ [] }
         ensures marks { result.marks.items ≡ [] }
     {
-        let mut marks = spare;
+        let Spare {
+            mut sends,
+            mut marks,
+        } = spare;
+        sends.clear();
         marks.clear();
-        Outbox {
-            sends: Vec::new(alloc),
-            marks,
-        }
+        Outbox { sends, marks }
     }
 
     /// A leaf's attempt sends its request.

@@ -1,8 +1,9 @@
 //! A call that acts: what comes to it, what it sends on the wires, and the marks that it sets.
 
-ghost use Rattle.std.specs.Prelude.{◌≡◌, ◌^◌, ◌<◌, IfOk, OnOk};
+ghost use Rattle.std.specs.Prelude.{◌≡◌, ◌^◌, ◌<◌, [], ◌∷◌, ◌++◌, length, MatchOption, IfOk, OnOk};
 ghost use Rattle.rpc_model.specs.Marks.{finish as finish_of};
 ghost use Rattle.sim_run.specs.Acting.{acting, acted, woven, finished_by, turned_by};
+ghost use Rattle.sim_run.specs.Marked.{marked};
 ghost use Rattle.sim_run.specs.Sends.{posted, posted_one};
 ghost use Rattle.sim_run.specs.Slots.{IsEarly};
 
@@ -12,8 +13,9 @@ use crate::timer::Timer;
 use crate::turn::Turn;
 use crate::wire::Wire;
 use crate::wires::send;
+use call_tree::{Effects, Spare};
 use chan_tree::Plan;
-use rpc_base::{List, NoMemory};
+use rpc_base::NoMemory;
 use rpc_model::{Event, MapKind, MergeKind, Send};
 
 /// Gives a call what comes to it. The first id is the call's own.
@@ -48,8 +50,28 @@ fn act(
     ensures { OnOk result (acting call.new wires.new.items marks.new ≡ acted first event moment (acting call.old wires.old.items marks.old)) }
 {
     let effects = call.apply(event, moment, marks.take_spare())?;
-    post(wires, call.plan(), call.number(), first, effects.sends)?;
-    set_marks(marks, first, effects.marks)?;
+    go_out(wires, marks, call.plan(), call.number(), first, effects)
+}
+
+/// What a step of a call with this plan made it do: the requests go out, and the marks are set. The lists' room is kept.
+pub(crate) fn go_out(
+    wires: &mut Vec<Wire>,
+    marks: &mut Timer,
+    plan: &Plan<MapKind, MergeKind>,
+    call: u32,
+    first: u64,
+    effects: Effects,
+) -> Result<(), NoMemory>
+    requires { first < 2 ^ 63 }
+    ensures sent { OnOk result (wires.new.items ≡ posted first plan.now call effects.sends wires.old.items) }
+    ensures marks { OnOk result (marks.new ≡ marked first effects.marks marks.old) }
+{
+    set_marks(marks, first, effects.marks.list())?;
+    let sends = post(wires, plan, call, first, effects.sends.into_vec())?;
+    marks.keep_spare(Spare {
+        sends,
+        marks: effects.marks.into_vec(),
+    });
     Ok(())
 }
 
@@ -92,24 +114,31 @@ pub(crate) fn finish_call(
     Ok(reached)
 }
 
-/// Sends the requests of a call with this plan: each under the id of its attempt, to its own server.
-pub(crate) fn post(
+/// Sends the requests of a call with this plan: each under the id of its attempt, to its own server. The list comes back
+/// empty.
+fn post(
     wires: &mut Vec<Wire>,
     plan: &Plan<MapKind, MergeKind>,
     call: u32,
     first: u64,
-    sends: List<Send>,
-) -> Result<(), NoMemory>
+    mut sends: Vec<Send>,
+) -> Result<Vec<Send>, NoMemory>
     requires { first < 2 ^ 63 }
-    ensures { OnOk result (wires.new.items ≡ posted first plan.now call sends wires.old.items) }
+    ensures { OnOk result (wires.new.items ≡ posted first plan.now call sends.items wires.old.items) }
 {
-    if sends.list().is_empty() {
-        return Ok(());
-    }
-    for request in sends.into_vec() {
+    sends.reverse();
+    'requests: while let Some(request) = last_of(&mut sends) {
         post_one(wires, plan, call, first, request)?;
     }
-    Ok(())
+    Ok(sends)
+}
+
+/// The last request, taken out, if there is one.
+fn last_of(sends: &mut Vec<Send>) -> Option<Send>
+    ensures last { MatchOption result (sends.old.items ≡ []) (λ last. sends.old.items ≡ sends.new.items ++ last ∷ []) }
+    ensures fewer { MatchOption result (sends.new.items ≡ []) (λ _. length sends.new.items < length sends.old.items) }
+{
+    sends.pop()
 }
 
 /// Sends a request under the id of its attempt, to its server.

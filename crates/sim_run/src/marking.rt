@@ -5,22 +5,12 @@ ghost use Rattle.sim_run.specs.Marked.{timed, marked};
 ghost use Rattle.timer_core.specs.Marks.{added};
 
 use crate::timer::Timer;
-use rpc_base::{List, NoMemory};
+use rpc_base::NoMemory;
 use rpc_model::{EBACKUPREQUEST, ERPCTIMEDOUT, MarkAt};
 use timer_core::Mark;
 
-/// Sets the marks of a call with this first id, each under the id of its node.
-pub(crate) fn set_marks(marks: &mut Timer, first: u64, set: List<MarkAt>) -> Result<(), NoMemory>
-    requires { first < 2 ^ 63 }
-    ensures { OnOk result (marks.new ≡ marked first set marks.old) }
-{
-    add_all(marks, first, set.list())?;
-    marks.keep_spare(set.into_vec());
-    Ok(())
-}
-
-/// Adds the marks of a call with this first id, one after the other.
-fn add_all(marks: &mut Timer, first: u64, set: &[MarkAt]) -> Result<(), NoMemory>
+/// Sets the marks of a call with this first id, one after the other, each under the id of its node.
+pub(crate) fn set_marks(marks: &mut Timer, first: u64, set: &[MarkAt]) -> Result<(), NoMemory>
     requires { first < 2 ^ 63 }
     ensures { OnOk result (marks.new ≡ marked first set.now marks.old) }
 {

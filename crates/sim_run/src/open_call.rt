@@ -11,7 +11,7 @@ ghost use Rattle.call_tree.specs.Running.{IsEffects};
 ghost use Rattle.sim_run.specs.Calls.{due_taken, open_taken};
 
 use crate::wait::Wait;
-use call_tree::{BareCall, Effects};
+use call_tree::{BareCall, Effects, Spare};
 use chan_tree::Plan;
 use rpc_base::{Bytes, NoMemory};
 use rpc_model::{Event, MapKind, MarkAt, MergeKind, Told};
@@ -49,14 +49,14 @@ impl Model for OpenCall {
 }
 
 impl OpenCall {
-    /// Begins a call. The marks that this sets are put into the room of the list that is given.
+    /// Begins a call. What goes out is put into the room that is given.
     pub(crate) fn begin(
         alloc: Global,
         call: u32,
         plan: Arc<Plan<MapKind, MergeKind>>,
         request: Bytes,
         moment: u64,
-        spare: Vec<MarkAt>,
+        spare: Spare,
     ) -> Result<(OpenCall, Effects), NoMemory>
         requires early { moment < 2 ^ 60 }
         ensures begun { IfOk result (λ r. r.0 ≡ begin call (arc_value plan) request moment) }
@@ -106,12 +106,12 @@ impl OpenCall {
         }
     }
 
-    /// Applies an event at a moment. The marks that this sets are put into the room of the list that is given.
+    /// Applies an event at a moment. What goes out is put into the room that is given.
     pub(crate) fn apply(
         &mut self,
         event: Event,
         moment: u64,
-        spare: Vec<MarkAt>,
+        spare: Spare,
     ) -> Result<Effects, NoMemory>
         requires early { moment < 2 ^ 60 }
         ensures applied { OnOk result (self.new ≡ apply self.old event moment) }

@@ -17,10 +17,9 @@ ghost use Rattle.sim_run.specs.Rounds.{IsPlanned};
 ghost use Rattle.id_pool.specs.Ranges.{lowest};
 ghost use Rattle.rpc_model.specs.declared.told.Told.TheVariants.{Full as full};
 
-use crate::acting::post;
+use crate::acting::go_out;
 use crate::call_table::CallTable;
 use crate::closing::close_told;
-use crate::marking::set_marks;
 use crate::open_call::OpenCall;
 use crate::planning::Plans;
 use crate::slots::{bring, deliver, join, lose, take_slot};
@@ -176,14 +175,14 @@ impl Replay {
         ensures once { OnOk result (IsDistinct nat_eq (keys_of self.new.calls.entries)) }
         ensures same { (self.new.pool ≡ self.old.pool) × (self.new.reached ≡ self.old.reached) }
     {
-        post(
+        go_out(
             &mut self.wires,
+            &mut self.marks,
             &ticket.plan,
             call,
             ticket.first,
-            effects.sends,
+            effects,
         )?;
-        set_marks(&mut self.marks, ticket.first, effects.marks)?;
         self.calls.push(call, Some(ticket))?;
         Ok(())
     }

@@ -3,8 +3,8 @@
 ghost use Rattle.std.specs.Prelude.{◌≡◌, ◌↔◌, [], None, OnOk};
 ghost use Rattle.timer_core.specs.Marks.{added, due_mark, rest_after, NoneIsDue};
 
+use call_tree::Spare;
 use rpc_base::NoMemory;
-use rpc_model::MarkAt;
 use std::alloc::Global;
 use std::marker::Model;
 use std::mem;
@@ -12,12 +12,12 @@ use timer_core::{Mark, Marks};
 
 /// The marks of all calls. It is seen as these.
 ///
-/// Beside them it keeps an empty list, in whose room each step of a call puts the marks that it sets.
+/// Beside them it keeps the room into which each step of a call puts what goes out.
 #[derive(Drop)]
 pub(crate) struct Timer {
     alloc: Global,
     marks: Marks,
-    spare: Vec<MarkAt>,
+    spare: Spare,
 }
 
 impl Model for Timer {
@@ -37,7 +37,7 @@ impl Timer {
         Timer {
             alloc,
             marks: Marks::open(alloc),
-            spare: Vec::new(alloc),
+            spare: Spare::new(alloc),
         }
     }
 
@@ -57,15 +57,15 @@ impl Timer {
         self.marks.due(now)
     }
 
-    /// Gives the list whose room a step may use.
-    pub(crate) fn take_spare(&mut self) -> Vec<MarkAt>
+    /// Gives the room that a step may use.
+    pub(crate) fn take_spare(&mut self) -> Spare
         ensures same { self.new ≡ self.old }
     {
-        mem::replace(&mut self.spare, Vec::new(self.alloc))
+        mem::replace(&mut self.spare, Spare::new(self.alloc))
     }
 
-    /// Takes the list back.
-    pub(crate) fn keep_spare(&mut self, spare: Vec<MarkAt>)
+    /// Takes the room back.
+    pub(crate) fn keep_spare(&mut self, spare: Spare)
         ensures same { self.new ≡ self.old }
     {
         self.spare = spare;
