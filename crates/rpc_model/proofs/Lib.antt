@@ -1,5 +1,5 @@
 pub mod First
 mod Rows
 mod SingleCalls
-mod Digits
+pub mod Digits
 pub mod Versions
