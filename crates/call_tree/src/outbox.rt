@@ -16,7 +16,10 @@ pub struct Spare {
 
 impl Spare {
     /// No room yet. It takes no memory.
-    pub fn new(alloc: Global) -> Spare {
+    pub fn new(alloc: Global) -> Spare
+        ensures sends { result.sends.items ≡ [] }
+        ensures marks { result.marks.items ≡ [] }
+    {
         Spare {
             sends: Vec::new(alloc),
             marks: Vec::new(alloc),

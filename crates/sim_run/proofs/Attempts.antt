@@ -1,5 +1,5 @@
 -- An attempt that a plan has is of a leaf of the plan.
-use Rattle.std.proofs.Common.{◌≡◌, ℕ, zero, suc, ◌+◌, Bool, true, List, [], ◌∷◌, ◌++◌, slice_get, Option, Some, None, is_some, IfNone, refl, ap, subst, if◌then◌else◌}
+use Rattle.std.proofs.Common.{◌≡◌, ℕ, zero, suc, ◌+◌, Bool, true, List, [], ◌∷◌, ◌++◌, slice_get, Option, Some, None, is_some, refl, ap, subst, if◌then◌else◌}
 use Rattle.std.proofs.lemmas.Bool.{eq-eqb}
 use Rattle.std.specs.List.{AllByRecursion}
 use Rattle.rpc_model.specs.declared.chan.LeafChan.{LeafChan}
@@ -8,8 +8,7 @@ use Rattle.rpc_model.specs.declared.kinds.MergeKind.{MergeKind}
 use Rattle.rpc_model.specs.declared.meaning.Meaning.{Meaning}
 use Rattle.rpc_model.specs.declared.meaning.Meaning.TheVariants.{Node, Attempt}
 use Rattle.rpc_model.specs.Plan.{Plan, leaf_plan, par_plan, sel_plan, Plans, last_plan, plan_then}
-use Rattle.rpc_model.specs.Versions.{node_versions, leaf_versions, attempt_versions, attempt_versions_of, nodes, versions, offset_of, meaning_of, or_leaf, leaf_at, leaf_at_of}
-use Rattle.model_laws.proofs.Runs.{inverse}
+use Rattle.rpc_model.specs.Versions.{node_versions, leaf_versions, attempt_versions, attempt_versions_of, nodes, versions, meaning_of, or_leaf, leaf_at, leaf_at_of}
 
 abbrev HasLeaf : (ℕ → Option LeafChan) → Meaning → Type 0
 HasLeaf find (Node n) = Unit {0}
@@ -70,19 +69,3 @@ unfolding versions meaning_of
 means-leaf p node attempt offset e =
     all-at (HasLeaf (leaf_at 0 p)) (versions p) offset (Attempt node attempt)
     (all-append (HasLeaf (leaf_at 0 p)) (node_versions 0 (nodes p)) (attempt_versions 0 p) (nodes-leaf (leaf_at 0 p) 0 (nodes p)) (attempts-leaf 0 p)) e
-
--- Where the plan has no leaf of this number, it has no attempt of it.
-pub no-leaf : (p : Plan MapKind MergeKind) (node attempt : ℕ) → leaf_at 0 p node ≡ None → offset_of p (Attempt node attempt) ≡ None
-no-leaf p node attempt none = by (offset_of p (Attempt node attempt)) refl
-  where
-    by : (o : Option ℕ) → offset_of p (Attempt node attempt) ≡ o → o ≡ None
-    by None e = refl
-    by (Some offset) e =
-        let some = means-leaf p node attempt offset ((inverse p).1 (Attempt node attempt) offset e) in
-        let both = ap is_some none in
-        absurd (cc)
-
--- What holds, holds where there is none.
-pub if-none : {X : Type 0} (P : Type 0) (o : Option X) → P → IfNone o P
-if-none P None h = h
-if-none P (Some x) h = tt
