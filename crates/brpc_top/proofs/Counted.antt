@@ -6,6 +6,7 @@ use Rattle.std.proofs.lemmas.Bool.{true≢false, and_parts, and_from, ne_eqb}
 use Rattle.std.proofs.lemmas.Bool.Decides.{nat_tests}
 use Rattle.std.proofs.lemmas.Str.Parse.{IsNumeralModel, IsDigitsTest, numerals_by_fold, parse_plain}
 use Rattle.rpc_model.specs.Words.{all_within, is_numeral, digits_after}
+use Rattle.rpc_model.proofs.Digits.{digits_after-le}
 use Rattle.brpc_top.specs.Words.{count_of, count_where, is_started}
 
 abbrev digits : List ℕ → Bool
@@ -22,10 +23,6 @@ tells = record {
 own : IsNumeralModel (λ ds. digits ds ≡ true) (digits_after 0)
 own = numerals_by_fold _ tells digits_after (search rules)
 
-after-le : (n : ℕ) (bs : List ℕ) → n ≤ digits_after n bs
-after-le n [] = omega arith
-after-le n (b ∷ bs) = omega (arith, after-le (10 * n + (b - 48)) bs)
-
 started : (b : ℕ) → (nat_le 49 b && nat_le b 57) ≡ true → (49 ≤ b) × (b ≤ 57)
 started b h = let low : 49 ≤ b = grind (arith, nat_tests) in let high : b ≤ 57 = grind (arith, nat_tests) in (low, high)
 
@@ -39,7 +36,7 @@ started-count [] h = absurd (true≢false (sym h))
 started-count (b ∷ bs) h =
     let s = started b h in
     let no_zero : (length bs == 0 || not (b == 48)) ≡ true = or-second (length bs == 0) (not (b == 48)) (ap (λ (t : Bool). not t) (ne_eqb b 48 (λ e. absurd (omega (arith, e, s.0))))) in
-    let some : nat_le 1 (digits_after (10 * 0 + (b - 48)) bs) ≡ true = at_least (digits_after (10 * 0 + (b - 48)) bs) (omega (arith, after-le (10 * 0 + (b - 48)) bs, s.0)) in
+    let some : nat_le 1 (digits_after (10 * 0 + (b - 48)) bs) ≡ true = at_least (digits_after (10 * 0 + (b - 48)) bs) (omega (arith, digits_after-le (10 * 0 + (b - 48)) bs, s.0)) in
     ap (λ (t : Bool). count_where (t && (nat_le 1 (digits_after 0 (b ∷ bs)) && nat_le (digits_after 0 (b ∷ bs)) 100000)) (digits_after 0 (b ∷ bs)))
     (ap (λ (t : Bool). digits (b ∷ bs) && t) no_zero ∙ and-true (digits (b ∷ bs)))
     ∙ ap (λ (t : Bool). count_where (digits (b ∷ bs) && (t && nat_le (digits_after 0 (b ∷ bs)) 100000)) (digits_after 0 (b ∷ bs))) some

@@ -1,6 +1,5 @@
 pub mod Begun
 pub mod Depths
-pub mod Digits
 pub mod Each
 pub mod FewWords
 pub mod Heads
@@ -9,4 +8,5 @@ pub mod Places
 pub mod Said
 pub mod Servers
 pub mod Sized
+pub mod TooLarge
 pub mod Parts

@@ -19,8 +19,9 @@ use Rattle.rpc_model.specs.declared.journal.How.{How}
 use Rattle.rpc_model.specs.declared.journal.How.TheVariants as how
 use Rattle.rpc_model.specs.declared.line.Line.{Line}
 use Rattle.rpc_model.specs.declared.line.Line.TheVariants as line
+use Rattle.rpc_model.specs.Words.{digits_after}
 use Rattle.rpc_model.specs.Texts.{hex_word, attempt_word, event_words, origin_words, fate_words, how_word, first_word, other_words, line_text}
-use Rattle.journal_text.specs.Reading.{◌>>=◌, digits_after, is_digit, number, number32, number64, bytes_said, both_numbers, attempt_said, how_said, fate_said, entry_said, line_said}
+use Rattle.journal_text.specs.Reading.{◌>>=◌, is_digit, number, number32, number64, bytes_said, both_numbers, attempt_said, how_said, fate_said, entry_said, line_said}
 use Rattle.journal_text.specs.Reading.{words_said, spelled_so, line_of, ok_of}
 use Rattle.journal_text.specs.Writing.{is_line, is_from, is_frame_fate, is_error_fate}
 use Rattle.journal_text.specs.Typed.{Is32, Is64, IsTypedEvent, IsTypedOrigin, IsTypedFate, IsTypedLine}

@@ -1,5 +1,5 @@
 -- What the text of a journal says, or its first line that no journal has: this project's own choice.
-use Rattle.std.specs.Prelude.{ℕ, ◌+◌, ◌-◌, ◌*◌, Bool, true, false, ◌==◌, ◌&&◌, nat_le, List, [], ◌∷◌, None, Some, Result, Ok, Err, bytes_eq, codes, if◌then◌else◌}
+use Rattle.std.specs.Prelude.{ℕ, Bool, true, false, ◌==◌, ◌&&◌, nat_le, List, [], ◌∷◌, None, Some, Result, Ok, Err, bytes_eq, codes, if◌then◌else◌}
 use Rattle.std.specs.List.{list_all, slice_split}
 use Rattle.std.specs.declared.option.Option.{Option}
 use Rattle.hex.specs.Hex.{decode_of}
@@ -13,6 +13,7 @@ use Rattle.rpc_model.specs.declared.journal.How.TheVariants as how
 use Rattle.rpc_model.specs.declared.line.Line.{Line}
 use Rattle.rpc_model.specs.declared.line.Line.TheVariants as line
 use Rattle.rpc_model.specs.Texts.{line_text}
+use Rattle.rpc_model.specs.Words.{digits_after}
 use Rattle.journal_text.specs.Writing.{is_line}
 
 infixl 10 ◌>>=◌
@@ -29,11 +30,6 @@ guard false = None
 
 abbrev pub is_digit : ℕ → Bool
 is_digit b = nat_le 48 b && nat_le b 57
-
--- the number that digits spell after the digits of n
-abbrev pub digits_after : ℕ → List ℕ → ℕ
-digits_after n [] = n
-digits_after n (b ∷ bs) = digits_after (10 * n + (b - 48)) bs
 
 -- a number of at most so much
 unfoldable pub number : ℕ → List ℕ → Option ℕ

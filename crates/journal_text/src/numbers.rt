@@ -3,6 +3,7 @@
 ghost use Rattle.std.specs.Prelude.{◌≡◌, ◌==◌, ◌≤◌, ◌<◌, ◌^◌, None, Some, IfOk, IfSome, MatchOption, map};
 ghost use Rattle.std.specs.List.{list_all, slice_split};
 ghost use Rattle.std.specs.Option.{option_map};
+ghost use Rattle.rpc_model.specs.Words.{digits_after};
 ghost use Rattle.journal_text.specs.Reading as spec;
 
 use rpc_base::NoMemory;
@@ -17,7 +18,7 @@ fn all_digits(word: &[u8]) -> bool
 
 /// The number that the digits spell, where it is at most `most`.
 fn digits(word: &[u8], most: u64) -> Option<u64>
-    ensures { MatchOption result (most < spec.digits_after 0 word.now) (λ n. (n ≡ spec.digits_after 0 word.now) × (n ≤ most)) }
+    ensures { MatchOption result (most < digits_after 0 word.now) (λ n. (n ≡ digits_after 0 word.now) × (n ≤ most)) }
 {
     let mut number = 0u128;
     for digit in word {

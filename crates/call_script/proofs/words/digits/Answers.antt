@@ -1,7 +1,8 @@
 -- More digits spell no smaller number, so one that is too large stays so.
 use Rattle.std.proofs.Common.{arith, drop, ◌<◌}
 use Rattle.rpc_model.specs.Words.{all_within, digits_after}
-use Rattle.call_script.proofs.Digits.{digits_after-over, too_large}
+use Rattle.rpc_model.proofs.Digits.{digits_after-over}
+use Rattle.call_script.proofs.TooLarge.{too_large}
 use Rattle.call_script.proofs.words.digits.Goals as goal
 
 pub returns-then-number-high : goal.returns-then-number-high

@@ -1,7 +1,7 @@
 -- More digits spell no smaller number, so one that is too large stays so.
 use Rattle.std.proofs.Common.{arith, drop, ◌<◌}
-use Rattle.journal_text.specs.Reading.{digits_after}
-use Rattle.journal_text.proofs.Digits.{digits_after-over}
+use Rattle.rpc_model.specs.Words.{digits_after}
+use Rattle.rpc_model.proofs.Digits.{digits_after-over}
 use Rattle.journal_text.proofs.numbers.digits.Goals as goal
 
 pub returns-then-number-from : goal.returns-then-number-from

@@ -1,6 +1,6 @@
 -- What is read so far goes on to the number that all digits spell.
 use Rattle.std.proofs.Common.{◌≡◌, ◌≤◌, drop}
-use Rattle.journal_text.specs.Reading.{digits_after}
+use Rattle.rpc_model.specs.Words.{digits_after}
 use Rattle.journal_text.proofs.numbers.digits.Given as goal
 
 abbrev pub invariant-loop-digit : goal.invariant-loop-digit
