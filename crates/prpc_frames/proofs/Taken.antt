@@ -5,7 +5,7 @@ use Rattle.prpc_frames.specs.declared.fault.FeedFault.{FeedFault}
 use Rattle.prpc_frames.specs.declared.frame.Frame.{Frame}
 use Rattle.prpc_frames.specs.declared.reading.Whole.{Whole}
 use Rattle.prpc_frames.specs.Stream.Reading.{later, frame, Stream, before, frames, joined}
-use Rattle.prpc_frames.specs.Seen.{stream_seen, IsFront}
+use Rattle.prpc_frames.specs.Seen.{stream_seen, IsPrefix}
 use Rattle.prpc_frames.proofs.Steps.{frames_by}
 
 -- a frame more
@@ -20,7 +20,7 @@ one_more fs gs at used w bytes all g e h =
     ap (λ (xs : List Frame). joined xs behind) g ∙ (longer ∙ (sym (ap (λ (s : Stream). joined fs s) first) ∙ h))
 
 -- the frames that waited still stand in front
-pub front_more : (before now more : List Frame) → IsFront before now → IsFront before (now ++ more)
+pub front_more : (before now more : List Frame) → IsPrefix before now → IsPrefix before (now ++ more)
 front_more before now more h =
     let size : min (length before) (length now) ≡ length before = sym (length-take (length before) now) ∙ ap length h in
     take-append-le (length before) now more (omega (arith, size)) ∙ h

@@ -33,8 +33,8 @@ abbrev pub stream_seen : List Frame → Reached → List ℕ → Stream
 stream_seen fs r bytes = record { frames = fs; rest = drop r.used bytes; at = r.at; fault = r.fault }
 
 -- the second list begins with the first
-abbrev pub IsFront : List Frame → List Frame → Type 0
-IsFront before now = take (length before) now ≡ before
+abbrev pub IsPrefix : List Frame → List Frame → Type 0
+IsPrefix before now = take (length before) now ≡ before
 
 -- the answer that tells a fault
 abbrev pub answer_of : Option FeedFault → Result (Unit {0}) FeedFault

@@ -1,7 +1,7 @@
 ghost use Rattle.std.specs.Prelude.{◌≡◌, ◌++◌, ◌≤◌, [], length, drop, IfOk, IfSome, OnErr};
 ghost use Rattle.std.specs.Vec.{vec_len};
 ghost use Rattle.prpc_frames.specs.Stream.Reading.{frames as frames_of, joined};
-ghost use Rattle.prpc_frames.specs.Seen.{answer_of, stream_seen, IsFinal, IsFront};
+ghost use Rattle.prpc_frames.specs.Seen.{answer_of, stream_seen, IsFinal, IsPrefix};
 
 use crate::fault::FeedFault;
 use crate::frame::Frame;
@@ -41,7 +41,7 @@ fn read_frames(
     ensures read { IfOk result (λ r. stream_seen waiting.new.items r bytes.now ≡ joined waiting.old.items (frames_of at bytes.now)) }
     ensures within { IfOk result (λ r. r.used ≤ length bytes.now) }
     ensures lasting { IfOk result (λ r. IfSome r.fault IsFinal) }
-    ensures begun { OnErr result (IsFront waiting.old.items waiting.new.items) }
+    ensures begun { OnErr result (IsPrefix waiting.old.items waiting.new.items) }
 {
     let mut used = 0;
     let mut place = at;

@@ -1,7 +1,7 @@
 use Rattle.std.proofs.Common.{◌≡◌, ◌≤◌, ◌∙◌, ◌++◌, ◌∷◌, [], length, ap, sym, drop, Option, Some, None, Ok, Err, arith}
 use Rattle.prpc_frames.specs.declared.reading.Whole.{Whole}
 use Rattle.prpc_frames.specs.Stream.Reading.{frame}
-use Rattle.prpc_frames.specs.Seen.{IsFront}
+use Rattle.prpc_frames.specs.Seen.{IsPrefix}
 use Rattle.prpc_frames.proofs.Taken.{one_more, front_more, no_more, bad_next, whole_inside}
 use Rattle.prpc_frames.proofs.taking.read_frames.Goals as goal
 
@@ -13,7 +13,7 @@ frames-preserved c =
     whole_inside c.in_ok-whole.field-0 c.in-Ok-Some.whole (length c.split_at.result.1.now) found c.in_ok-whole.ensures.within in
     let longer : c.push_back_reserved.new.self.items ≡ c.frames.waiting.items ++ c.in-Ok-Some.whole.frame ∷ [] = rw c.in_ok-reserve-in-Ok-Some.ensures.items at c.push_back_reserved.ensures.items in
     let next = one_more c.frames.waiting.items c.push_back_reserved.new.self.items c.frames.place c.frames.used c.in-Ok-Some.whole c.args.bytes.now _ longer here c.frames.invariant.0 in
-    let front : IsFront c.args.waiting.now.items c.push_back_reserved.new.self.items =
+    let front : IsPrefix c.args.waiting.now.items c.push_back_reserved.new.self.items =
     rw longer (front_more c.args.waiting.now.items c.frames.waiting.items (c.in-Ok-Some.whole.frame ∷ []) c.frames.invariant.2) in
     (rw c.saturating_add-place.ensures next, omega (arith, inside.1, c.split_at.ensures.back_len), front)
 
