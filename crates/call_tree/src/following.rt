@@ -49,9 +49,13 @@ pub(crate) fn follow<M: Mapper + Copy, G: Merger + Copy>(
     requires few { first + size_of (states_of (drop (suc at) sel.now.kids.items)) < 2 ^ 31 }
     requires early { moment < 2 ^ 60 }
     requires none { started.old.items ≡ [] }
-    ensures end { IfOk result (λ o. (n c m : ℕ) → let rest = states_of (drop (suc at) sel.now.kids.items) in o ≡ (followed (option_map (λ e. e.now) end.entry) rest (spec.start_waiting (kinds_of M.answer G.answer) n rest c sel.now.request m)).end) }
-    ensures started { OnOk result ((n c m : ℕ) → let rest = states_of (drop (suc at) sel.now.kids.items) in started.new.items ≡ behind_try (kinds_of M.answer G.answer) rest (option_map (λ e. e.now) end.entry) (started_tries (kinds_of M.answer G.answer) n rest c sel.now.request m)) }
-    ensures grown { OnOk result (let rest = states_of (drop (suc at) sel.now.kids.items) in let next = followed (option_map (λ e. e.now) end.entry) rest (spec.start_waiting (kinds_of M.answer G.answer) first rest call sel.now.request moment) in IsGrown out.old out.new next.sends next.marks) }
+    ensures end { IfOk result (λ o. (n c m : ℕ) → let rest = states_of (drop (suc at) sel.now.kids.items) in
+        o ≡ (followed (option_map (λ e. e.now) end.entry) rest (spec.start_waiting (kinds_of M.answer G.answer) n rest c sel.now.request m)).end) }
+    ensures started { OnOk result ((n c m : ℕ) → let rest = states_of (drop (suc at) sel.now.kids.items) in
+        started.new.items ≡ behind_try (kinds_of M.answer G.answer) rest (option_map (λ e. e.now) end.entry) (started_tries (kinds_of M.answer G.answer) n rest c sel.now.request m)) }
+    ensures grown { OnOk result (let rest = states_of (drop (suc at) sel.now.kids.items) in
+        let next = followed (option_map (λ e. e.now) end.entry) rest (spec.start_waiting (kinds_of M.answer G.answer) first rest call sel.now.request moment)
+        in IsGrown out.old out.new next.sends next.marks) }
 {
     let Some(end) = end else {
         return Ok(None);

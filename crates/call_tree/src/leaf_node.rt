@@ -59,7 +59,8 @@ impl LeafNode {
         requires sound { IsLeafNode self.now }
         requires open { self.now.end ≡ None }
         ensures end { IfOk result (λ end. end ≡ (leaf_step (arc_value self.now.chan).retry (leaf_with self.now.leaf self.now.end) event.now).end) }
-        ensures grown { OnOk result (IsGrown out.old out.new (sent (arc_value self.now.chan) call node self.now.request self.now.leaf.issued (leaf_step (arc_value self.now.chan).retry (leaf_with self.now.leaf self.now.end) event.now).issued) []) }
+        ensures grown { OnOk result (IsGrown out.old out.new (sent (arc_value self.now.chan) call node self.now.request self.now.leaf.issued
+            (leaf_step (arc_value self.now.chan).retry (leaf_with self.now.leaf self.now.end) event.now).issued) []) }
     {
         let Some(coming) = leaf_event(event) else {
             return Ok(None);
@@ -92,7 +93,8 @@ impl LeafNode {
         ensures sound { OnOk result (IsLeafNode self.new) }
         ensures same { OnOk result ((self.new.chan ≡ self.old.chan) × (self.new.request ≡ self.old.request)) }
         ensures leaf { OnOk result (leaf_with self.new.leaf self.new.end ≡ leaf_step (arc_value self.old.chan).retry (leaf_with self.old.leaf self.old.end) event) }
-        ensures grown { OnOk result (IsGrown out.old out.new (sent (arc_value self.old.chan) call node self.old.request self.old.leaf.issued (leaf_step (arc_value self.old.chan).retry (leaf_with self.old.leaf self.old.end) event).issued) []) }
+        ensures grown { OnOk result (IsGrown out.old out.new (sent (arc_value self.old.chan) call node self.old.request self.old.leaf.issued
+            (leaf_step (arc_value self.old.chan).retry (leaf_with self.old.leaf self.old.end) event).issued) []) }
         ensures kept { OnErr result (self.new ≡ self.old) }
     {
         if self.end.is_some() {

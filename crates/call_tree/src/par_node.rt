@@ -81,7 +81,8 @@ impl<M: Mapper + Drop, G: Merger + Drop> ParNode<M, G> {
         requires few { length self.old.kids.items + 1 < 2 ^ 31 }
         ensures sound { OnOk result (IsParNode self.new) }
         ensures kids { OnOk result (self.new.kids.items ≡ self.old.kids.items ++ tree ∷ []) }
-        ensures end { OnOk result (self.new.end ≡ end_with (kinds_of M.answer G.answer) self.old.end (limits_of self.old.counts) self.old.merges (spec.ends_of (states_of self.old.kids.items)) (spec.end_of tree)) }
+        ensures end { OnOk result (self.new.end ≡ end_with (kinds_of M.answer G.answer) self.old.end
+            (limits_of self.old.counts) self.old.merges (spec.ends_of (states_of self.old.kids.items)) (spec.end_of tree)) }
         ensures limits { OnOk result (limits_of self.new.counts ≡ limits_of self.old.counts) }
         ensures merges { OnOk result (self.new.merges ≡ self.old.merges) }
     {
@@ -137,7 +138,8 @@ impl<M: Mapper, G: Merger> ParNode<M, G> {
         requires open { self.now.end ≡ None }
         requires there { at < length self.now.kids.items }
         requires fresh { is_some (option_map (λ e. e.now) end) ≡ true → get_or (spec.ends_of (states_of self.now.kids.items)) at None ≡ None }
-        ensures { IfOk result (λ o. o ≡ brought_up (kinds_of M.answer G.answer) (limits_of self.now.counts) self.now.merges (spec.ends_of (states_of self.now.kids.items)) at (option_map (λ e. e.now) end.entry)) }
+        ensures { IfOk result (λ o. o ≡ brought_up (kinds_of M.answer G.answer)
+            (limits_of self.now.counts) self.now.merges (spec.ends_of (states_of self.now.kids.items)) at (option_map (λ e. e.now) end.entry)) }
     {
         let Some(end) = end else {
             return Ok(None);

@@ -96,7 +96,8 @@ fn start_par<M: Mapper + Copy, G: Merger + Copy>(
     requires early { moment < 2 ^ 60 }
     ensures sound { IfOk result (λ par. IsParNode par) }
     ensures node { IfOk result (λ par. state_of (node_word.Par par) ≡ (spec.start_at (kinds_of M.answer G.answer) node (par_plan (rule_of rule.now) (plans_of plans.now)) call request moment).state) }
-    ensures grown { OnOk result (let run = spec.start_at (kinds_of M.answer G.answer) node (par_plan (rule_of rule.now) (plans_of plans.now)) call request moment in IsGrown out.old out.new run.sends run.marks) }
+    ensures grown { OnOk result (let run = spec.start_at (kinds_of M.answer G.answer) node (par_plan (rule_of rule.now) (plans_of plans.now)) call request moment
+        in IsGrown out.old out.new run.sends run.marks) }
 {
     // A channel's plan has fewer mappers than nodes (`parallel_nodes_are_even` of model_laws), and so never as many.
     if rule.maps.list().len() >= 0x8000_0000 {
@@ -150,7 +151,8 @@ fn start_subs<M: Mapper + Copy, G: Merger + Copy>(
     ensures sound { OnOk result (IsParNode par.new) }
     ensures limits { OnOk result (limits_of par.new.counts ≡ limits_of par.old.counts) }
     ensures merges { OnOk result (par.new.merges ≡ par.old.merges) }
-    ensures started { OnOk result (IsStarted par.new out.old out.new (subs_left (kinds_of M.answer G.answer) par.old.end (node + 1) (plans_of plans.now) call asked.items (limits_of par.old.counts) par.old.merges moment [])) }
+    ensures started { OnOk result (IsStarted par.new out.old out.new (subs_left (kinds_of M.answer G.answer) par.old.end (node + 1) (plans_of plans.now) call asked.items
+        (limits_of par.old.counts) par.old.merges moment [])) }
 {
     let mut asked = asked.into_iter();
     let mut number = node + 1;

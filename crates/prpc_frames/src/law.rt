@@ -16,7 +16,8 @@ pub fn any_pieces()
 /// A law of streams: the frames of a list of spellings, whatever follows, begin with that list. Each frame fits, and its
 /// numbers are of their types.
 pub fn begins_with_spelled()
-    ensures { (at : ℕ) (fs : List Frame) (more : List ℕ) → at < 2 ^ 64 → All (λ f. IsFitting f × IsTyped f.meta) fs → frames at (all_bytes fs ++ more) ≡ joined fs (frames (later at (length (all_bytes fs))) more) }
+    ensures { (at : ℕ) (fs : List Frame) (more : List ℕ) → at < 2 ^ 64 → All (λ f. IsFitting f × IsTyped f.meta) fs
+        → frames at (all_bytes fs ++ more) ≡ joined fs (frames (later at (length (all_bytes fs))) more) }
 {
     reads_its_spelling();
 }

@@ -43,7 +43,11 @@ impl Model for OpenCall {
     ghost use Rattle.rpc_model.specs.declared.kinds.MapKind.{MapKind};
     ghost use Rattle.rpc_model.specs.declared.kinds.MergeKind.{MergeKind};
 
-    ghost coded = { Prim.hlevel (codes, plan_code {M = MapKind} {G = MergeKind} (Prim.hlevel (codes)), state_code {M = MapKind} {G = MergeKind} (Prim.hlevel (codes, plan_code {M = MapKind} {G = MergeKind} (Prim.hlevel (codes))))) };
+    ghost coded = { Prim.hlevel (
+      codes,
+      plan_code {M = MapKind} {G = MergeKind} (Prim.hlevel (codes)),
+      state_code {M = MapKind} {G = MergeKind} (Prim.hlevel (codes, plan_code {M = MapKind} {G = MergeKind} (Prim.hlevel (codes)))),
+    ) };
 
     ghost view = { λ c. begun_of c.call c.waiting.items };
 }

@@ -7,7 +7,8 @@ ghost use Rattle.id_pool.specs.Answers.{value_says};
 ghost use Rattle.id_pool.specs.Ranges.{changed, created, look, lowest};
 ghost use Rattle.rpc_model.specs.Marks.{Begun, finish as finish_of};
 ghost use Rattle.sim_run.specs.Acting.{turned_by, joined_by};
-ghost use Rattle.sim_run.specs.Slots.{IsFirst, IsEarly, IsJoinedEarly, visit, touch, turned, meant, brought, brought_wires, acts_found, acts_by, reply_event, loss_event, finished, finished_of, join, join_says};
+ghost use Rattle.sim_run.specs.Slots.{IsFirst, IsEarly, IsJoinedEarly, visit, touch, turned, meant, brought, brought_wires};
+ghost use Rattle.sim_run.specs.Slots.{acts_found, acts_by, reply_event, loss_event, finished, finished_of, join, join_says};
 
 use crate::acting::{finish_call, turn_call};
 use crate::open_call::OpenCall;

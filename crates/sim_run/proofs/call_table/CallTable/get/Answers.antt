@@ -7,7 +7,8 @@ use Rattle.sim_run.proofs.call_table.CallTable.get.Goals as goal
 pub returns-in_err-place : goal.returns-in_err-place
 returns-in_err-place c = record {
   value =
-      rw (← c.self.view_is) (ap option_copied c.from_residual.ensures ∙ no_call c.self.inside.numbers c.self.inside.calls.items c.args.call c.self.invariant (sym c.in_err-place.was ∙ c.place_of.ensures.place));
+      rw (← c.self.view_is) (ap option_copied c.from_residual.ensures
+      ∙ no_call c.self.inside.numbers c.self.inside.calls.items c.args.call c.self.invariant (sym c.in_err-place.was ∙ c.place_of.ensures.place));
 }
 
 pub returns : goal.returns

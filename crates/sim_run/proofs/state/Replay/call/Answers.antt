@@ -34,7 +34,8 @@ returns-in_default-clause-ready c =
     let wide : c.width-width.result ≡ width p = c.width-width.ensures ∙ ap width c.deref.ensures in
     let n = no-place c.args.self.now.pool c.width-width.result c.in_ok-open.open (rw wide (plan-wide p)) (rw wide c.in_ok-plan.ensures.narrow) c.in_default.ensures.first in
     let same = c.in_ok-refuse.ensures.same in
-    full-ready c.args.self.now c.refuse.new.self c.args.script.now c.args.call c.requires.ready c.requires.new (same.0 ∙ c.in_default.ensures.after ∙ n.1) same.2 (same.3 ∙ c.take_spare-spare.ensures.same)
+    full-ready c.args.self.now c.refuse.new.self c.args.script.now c.args.call
+    c.requires.ready c.requires.new (same.0 ∙ c.in_default.ensures.after ∙ n.1) same.2 (same.3 ∙ c.take_spare-spare.ensures.same)
     c.in_ok-refuse.ensures.calls c.in_ok-refuse.ensures.once
 
 pub returns-in_default-clause-after : goal.returns-in_default-clause-after
