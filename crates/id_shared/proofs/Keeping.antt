@@ -9,7 +9,8 @@ use Rattle.id_rule.specs.declared.view.Part.{Part}
 use Rattle.id_rule.specs.declared.view.View.{View}
 use Rattle.id_rule.specs.Parts.{part_of, view_with}
 use Rattle.id_rule.proofs.Lists.{part_here, part_else}
-use Rattle.id_shared.specs.Answers.{IsReserved, IsTried, IsLockEnd, IsCollected, IsJoined, IsJoinSeen}
+use Rattle.id_rule.specs.declared.rule.Sizes.{Sizes}
+use Rattle.id_shared.specs.Answers.{IsReserved, start_of, view_after_round, IsTried, IsLockEnd, IsCollected, IsJoined, IsJoinSeen}
 use Rattle.id_shared.specs.Claims.{IsKeptAt, KeepsClaims, KeepsOthers, KeepsCollected, KeepsErrors, IsHolding, HasReserved, HasTried, HasLockEnd}
 use Rattle.id_shared.specs.declared.answers.Reserve.{Reserve}
 use Rattle.id_shared.specs.declared.answers.Reserve.TheVariants as reserve
@@ -20,7 +21,7 @@ use Rattle.id_shared.specs.declared.answers.LockEnd.TheVariants as lock
 use Rattle.id_shared.specs.declared.answers.CollectEnd.{CollectEnd}
 use Rattle.id_shared.specs.declared.answers.CollectEnd.TheVariants as collect
 use Rattle.id_shared.specs.Standing.{Claim, Standing}
-use Rattle.id_shared.specs.Views.{words_from, words_of, view_after_loads, view_with_spot, view_with_hold, view_with_value, view_after_collect}
+use Rattle.id_shared.specs.Views.{words_round, words_of, view_after_loads, view_with_spot, view_with_hold, view_with_value, view_after_collect}
 use Rattle.id_rule.specs.declared.view.Receipt.{Receipt}
 use Rattle.id_shared.proofs.Loads.{one_load, loads_keep}
 use Rattle.id_shared.proofs.Parts.{HasPart, part_held, held_part}
@@ -86,26 +87,27 @@ module _ {E : Type 0} where
   kept_to v u w slot same = subst (λ z. IsKeptAt v z slot) (sym same)
 
   -- `reserve` keeps claims
-  pub reserved_claims : (slots range : ℕ) (p q : Standing E) (answer : Reserve) → IsReserved slots range p answer q → KeepsClaims p q
-  reserved_claims slots range p q (reserve.Spot c) a slot =
-      let v = view_after_loads p.view (words_from 0 q.words) in let k = (loads_keep p.view (words_from 0 q.words) c.slot).1 in
-      kept_to p.view q.view (view_with_spot v c) slot a.3 (kept_on p.view v (view_with_spot v c) slot (kept_loads p.view (words_from 0 q.words) slot)
-      (kept_spot v c (ap (λ (z : Part E). z.spot) k ∙ a.4) slot))
-  reserved_claims slots range p q reserve.Full a slot = kept_to p.view q.view (view_after_loads p.view (words_from 0 q.words)) slot a.3 (kept_loads p.view (words_from 0 q.words) slot)
-  reserved_claims slots range p q (reserve.Again word found) a slot =
-      let v = view_after_loads p.view (words_from 0 q.words) in
-      kept_to p.view q.view (view_after_load v a.2.0 found) slot a.2.2 (kept_on p.view v (view_after_load v a.2.0 found) slot (kept_loads p.view (words_from 0 q.words) slot)
+  pub reserved_claims : (sizes : Sizes) (range : ℕ) (p q : Standing E) (answer : Reserve) → IsReserved sizes range p answer q → KeepsClaims p q
+  reserved_claims sizes range p q (reserve.Spot c) a slot =
+      let xs = words_round sizes.slots (start_of sizes p) q.words in let v = view_after_loads p.view xs in
+      kept_to p.view q.view (view_with_spot v c) slot a.3 (kept_on p.view v (view_with_spot v c) slot (kept_loads p.view xs slot)
+      (kept_spot v c (ap (λ (z : Part E). z.spot) (loads_keep p.view xs c.slot).1 ∙ a.4) slot))
+  reserved_claims sizes range p q reserve.Full a slot =
+      let xs = words_round sizes.slots (start_of sizes p) q.words in kept_to p.view q.view (view_after_loads p.view xs) slot a.3 (kept_loads p.view xs slot)
+  reserved_claims sizes range p q (reserve.Again word found) a slot =
+      let xs = words_round sizes.slots (start_of sizes p) q.words in let v = view_after_loads p.view xs in
+      kept_to p.view q.view (view_after_load v a.2.0 found) slot a.2.2 (kept_on p.view v (view_after_load v a.2.0 found) slot (kept_loads p.view xs slot)
       (kept_load v a.2.0 found slot))
-  reserved_claims slots range p q reserve.BadRange a slot = kept_part p.view q.view slot (ap (λ z. part_of z.view slot) a.1)
+  reserved_claims sizes range p q reserve.BadRange a slot = kept_part p.view q.view slot (ap (λ z. part_of z.view slot) a.1)
 
   -- the Spot that `reserve` gave
-  pub reserved_has : (slots range : ℕ) (p q : Standing E) (answer : Reserve) → IsReserved slots range p answer q → HasReserved q answer
-  reserved_has slots range p q (reserve.Spot c) a =
-      let v = view_after_loads p.view (words_from 0 q.words) in
+  pub reserved_has : (sizes : Sizes) (range : ℕ) (p q : Standing E) (answer : Reserve) → IsReserved sizes range p answer q → HasReserved q answer
+  reserved_has sizes range p q (reserve.Spot c) a =
+      let v = view_after_round sizes p q.words in
       ap (λ w. (part_of w c.slot).spot) a.3 ∙ ap (λ (z : Part E). z.spot) (part_here v.parts c.slot (part_with_spot (part_of v c.slot) (Some (c.first, c.size))))
-  reserved_has slots range p q reserve.Full a = tt
-  reserved_has slots range p q (reserve.Again word found) a = tt
-  reserved_has slots range p q reserve.BadRange a = tt
+  reserved_has sizes range p q reserve.Full a = tt
+  reserved_has sizes range p q (reserve.Again word found) a = tt
+  reserved_has sizes range p q reserve.BadRange a = tt
 
   -- `join_seen` keeps claims
   pub seen_claims : (slots id : ℕ) (p q : Standing E) (answer : Option ℕ) → IsJoinSeen slots id p answer q → KeepsClaims p q

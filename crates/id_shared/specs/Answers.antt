@@ -1,6 +1,6 @@
 -- What each answer of a call says: of the id or the range asked for, the pass before, the answer and the pass after. Locking, ending and joining by id
 -- follow bthread_id; reserving, collecting and the words that show a refusal are this project's own choice.
-use Rattle.std.specs.Prelude.{◌≡◌, ◌≢◌, ◌⊎◌, ℕ, ◌<◌, ◌≤◌, List, [], ◌∷◌, ◌++◌, length, reverse, true, Option, Some, None}
+use Rattle.std.specs.Prelude.{◌≡◌, ◌≢◌, ◌⊎◌, ℕ, ◌+◌, ◌%◌, ◌<◌, ◌≤◌, List, [], ◌∷◌, ◌++◌, length, reverse, true, Option, Some, None}
 use mathlib.Core.List.{IsPrefix}
 use Rattle.id_pool.specs.Ids as ids
 use Rattle.rpc_model.specs.Gone.{code_in, head_in, first_in, range_in, is_live_in, gone_by}
@@ -12,7 +12,8 @@ use Rattle.id_rule.specs.declared.view.Queued.{Queued}
 use Rattle.id_rule.specs.declared.view.Turn.{Turn}
 use Rattle.id_rule.specs.Nodes.{numbers_of}
 use Rattle.id_rule.specs.Receipts.{IsReordered, IsGrown, IsGrownWithout, receipts_of_range, receipts_in}
-use Rattle.id_rule.specs.Parts.{part_of, HasLog, HasNumber, AreAll}
+use Rattle.id_rule.specs.declared.rule.Sizes.{Sizes}
+use Rattle.id_rule.specs.Parts.{part_of, own_number, HasLog, HasNumber, AreAll}
 use Rattle.id_rule.specs.Steps.{IsChainOf}
 use Rattle.id_rule.specs.Words.{packed_word}
 use Rattle.id_shared.specs.declared.answers.Posted.{Posted}
@@ -27,7 +28,7 @@ use Rattle.id_shared.specs.declared.answers.UnlockEnd.TheVariants as unlock
 use Rattle.id_shared.specs.declared.answers.CollectEnd.{CollectEnd}
 use Rattle.id_shared.specs.declared.answers.CollectEnd.TheVariants as collect
 use Rattle.id_shared.specs.Standing.{Claim, Standing, first_id_of}
-use Rattle.id_shared.specs.Views.{words_from, words_of, with_view, view_after_loads, view_with_spot, view_with_hold, view_without_hold, view_after_pending}
+use Rattle.id_shared.specs.Views.{words_round, words_of, first_slot, with_view, view_after_loads, view_with_spot, view_with_hold, view_without_hold, view_after_pending}
 use Rattle.id_shared.specs.Views.{view_after_destroy, view_after_collect, errors_of, receipts_in_errors}
 
 -- a range may have 1 to 1,024 ids
@@ -50,11 +51,14 @@ IsFreeFor word id = (is_live_in word (ids.version_of id) ≡ true) × (code_in w
 abbrev pub IsHeldFor : ℕ → ℕ → Type 0
 IsHeldFor word id = (is_live_in word (ids.version_of id) ≡ true) × (code_in word ≡ 3)
 
--- the slots were looked at from 0 on: this one's word was vacant, and none before it
-abbrev pub IsFirstVacant : ℕ → ℕ → ℕ → List ℕ → Type 0
-IsFirstVacant slots slot word words = (slot < slots)
-    × (code_in word ≡ 0)
-    × ((before : List ℕ) × (words ≡ before ++ word ∷ []) × (length before ≡ slot) × AreAll (λ n. code_in n ≢ 0) before)
+-- the slots were looked at from this one on, counted round, none of them twice: this slot's word was vacant, and none before it
+abbrev pub IsFirstVacant : ℕ → ℕ → ℕ → ℕ → List ℕ → Type 0
+IsFirstVacant slots start slot word words = (code_in word ≡ 0)
+    × ((before : List ℕ)
+    × (words ≡ before ++ word ∷ [])
+    × ((start + length before) % slots ≡ slot)
+    × (length before < slots)
+    × AreAll (λ n. code_in n ≢ 0) before)
 
 module _ {E : Type 0} where
   -- the log begins with each log of the range that is among those known
@@ -72,21 +76,31 @@ module _ {E : Type 0} where
   IsReservedFrom slot word range p (reserve.Again old found) q = (old ≡ word) × (found ≢ word) × (q ≡ with_view p (view_after_load p.view slot found))
   IsReservedFrom slot word range p reserve.BadRange q = ⊥
 
+  -- the slot that the pass looks at first
+  abbrev pub start_of : Sizes → Standing E → ℕ
+  start_of sizes p = first_slot sizes.slots sizes.passes (own_number p.view.numbers)
+
+  -- the view after loads of slots, from the pass's first one on, that found the words which are noted
+  abbrev pub view_after_round : Sizes → Standing E → List ℕ → View E
+  view_after_round sizes p words = view_after_loads p.view (words_round sizes.slots (start_of sizes p) words)
+
   -- `reserve`
-  abbrev pub IsReserved : ℕ → ℕ → Standing E → Reserve → Standing E → Type 0
-  IsReserved slots range p (reserve.Spot c) q = IsSize range
-      × ((word : ℕ) × IsFirstVacant slots c.slot word q.words × (c.first ≡ first_in word))
+  abbrev pub IsReserved : Sizes → ℕ → Standing E → Reserve → Standing E → Type 0
+  IsReserved sizes range p (reserve.Spot c) q = IsSize range
+      × ((word : ℕ) × IsFirstVacant sizes.slots (start_of sizes p) c.slot word q.words × (c.first ≡ first_in word))
       × (c.size ≡ range)
-      × (q.view ≡ view_with_spot (view_after_loads p.view (words_from 0 q.words)) c)
+      × (q.view ≡ view_with_spot (view_after_round sizes p q.words) c)
       × ((part_of p.view c.slot).spot ≡ None)
-  IsReserved slots range p reserve.Full q = IsSize range
-      × (length q.words ≡ slots)
+  IsReserved sizes range p reserve.Full q = IsSize range
+      × (length q.words ≡ sizes.slots)
       × AreAll (λ n. code_in n ≢ 0) q.words
-      × (q.view ≡ view_after_loads p.view (words_from 0 q.words))
-  IsReserved slots range p (reserve.Again word found) q = IsSize range
+      × (q.view ≡ view_after_round sizes p q.words)
+  IsReserved sizes range p (reserve.Again word found) q = IsSize range
       × (found ≢ word)
-      × ((slot : ℕ) × IsFirstVacant slots slot word q.words × (q.view ≡ view_after_load (view_after_loads p.view (words_from 0 q.words)) slot found))
-  IsReserved slots range p reserve.BadRange q = (range < 1 ⊎ 1024 < range) × (q ≡ p)
+      × ((slot : ℕ)
+      × IsFirstVacant sizes.slots (start_of sizes p) slot word q.words
+      × (q.view ≡ view_after_load (view_after_round sizes p q.words) slot found))
+  IsReserved sizes range p reserve.BadRange q = (range < 1 ⊎ 1024 < range) × (q ≡ p)
 
   -- the log has, once, each receipt that the pass was given for the range
   abbrev pub HasReceipts : (E → Option Receipt) → View E → ℕ → ℕ → List E → Type 0

@@ -1,5 +1,5 @@
 -- What a pass knows and has after each call. This project's own choice.
-use Rattle.std.specs.Prelude.{ℕ, ◌+◌, ◌*◌, true, false, List, [], ◌∷◌, ◌++◌, Some, None}
+use Rattle.std.specs.Prelude.{ℕ, ◌+◌, ◌*◌, ◌/◌, ◌%◌, true, false, List, [], ◌∷◌, ◌++◌, Some, None}
 use Rattle.id_rule.specs.Changes.{part_with_spot, part_with_range, part_with_hold, part_without_hold, part_with_out, part_with_taking, part_without_taking}
 use Rattle.id_rule.specs.Changes.{view_after_load, view_after_miss, view_with_seen, view_with_list, taking_view, ending_view}
 use Rattle.id_rule.specs.declared.view.Queued.{Queued}
@@ -11,10 +11,10 @@ use Rattle.id_rule.specs.Words.{packed_word}
 use Rattle.id_shared.specs.declared.answers.Posted.{Posted}
 use Rattle.id_shared.specs.Standing.{Claim, Standing}
 
--- words as loaded from slots one after the other
-abbrev pub words_from : ℕ → List ℕ → List (ℕ × ℕ)
-words_from slot [] = []
-words_from slot (n ∷ ns) = (slot, n) ∷ words_from (slot + 1) ns
+-- words as loaded from slots one after the other, counted round, from this many slots after slot 0 on
+abbrev pub words_round : ℕ → ℕ → List ℕ → List (ℕ × ℕ)
+words_round slots at [] = []
+words_round slots at (n ∷ ns) = (at % slots, n) ∷ words_round slots (at + 1) ns
 
 -- words as loaded from one slot, again and again
 abbrev pub words_of : ℕ → List ℕ → List (ℕ × ℕ)
@@ -114,6 +114,10 @@ errors_of (q ∷ qs) = error_of q ∷ errors_of qs
 abbrev pub receipts_in_errors : List Posted → List Receipt
 receipts_in_errors [] = []
 receipts_in_errors (e ∷ es) = e.receipt ∷ receipts_in_errors es
+
+-- the slot that the pass with this number looks at first, where so many passes share so many slots: their first slots lie apart, and that of pass 0 is slot 0
+abbrev pub first_slot : ℕ → ℕ → ℕ → ℕ
+first_slot slots passes number = number * slots / passes
 
 -- the first node of the pass with this number, where each pass has so many
 abbrev pub first_node : ℕ → ℕ → ℕ

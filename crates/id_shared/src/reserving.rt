@@ -7,7 +7,7 @@ ghost use Rattle.id_rule.specs.Parts.{part_of};
 ghost use Rattle.id_shared.specs.Claims.{HasReserved, KeepsClaims, KeepsErrors, KeepsOthers};
 ghost use Rattle.id_shared.specs.Standing.{IsPassOf, HasSpot};
 ghost use Rattle.id_shared.specs.Views.{with_view, view_without_spot};
-ghost use Rattle.id_shared.specs.Answers.{IsSize, IsReservedFrom, IsReserved};
+ghost use Rattle.id_shared.specs.Answers.{IsSize, IsReservedFrom, IsReserved, start_of};
 
 use crate::answers::Reserve;
 use crate::claims::Spot;
@@ -97,7 +97,18 @@ impl<T: Tenant> Ids<T> {
             .store::<GiveUp>(&mut pass.seat, slot as usize, new);
     }
 
-    /// Reserves a slot for a range of this many ids: looks at the slots from 0 on, and takes the first vacant one.
+    // The slot that a pass looks at first: the first slots of the passes lie apart, and that of pass 0 is slot 0.
+    fn first_slot(&self, pass: &Pass<T>) -> u32
+        requires own { IsPassOf self.now pass.now }
+        ensures slot { result ≡ start_of self.now.sizes pass.now }
+        ensures low { result < 4096 }
+    {
+        pass.number * self.sizes.slots / self.sizes.passes
+    }
+
+    /// Reserves a slot for a range of this many ids: looks at the slots one after the other, counted round, and takes the first
+    /// vacant one. A table's only pass begins with slot 0. Where there are more, each begins at a slot of its own, as far apart as
+    /// may be, so that passes of several threads don't meet at the same words.
     ///
     /// `BadRange` comes exactly for a range outside 1 to 1,024, `Full` only where each slot's word loaded in this call
     /// wasn't vacant (`Pass::seen` has the words), and `Again` exactly where the exchange found another word than the
@@ -105,7 +116,7 @@ impl<T: Tenant> Ids<T> {
     pub fn reserve(&self, pass: &mut Pass<T>, range: u32) -> Reserve
         requires own { IsPassOf self.now pass.old }
         ensures own { IsPassOf self.now pass.new }
-        ensures answer { IsReserved self.now.sizes.slots range pass.old result pass.new }
+        ensures answer { IsReserved self.now.sizes range pass.old result pass.new }
         ensures spot { HasReserved pass.new result }
         ensures claims { KeepsClaims pass.old pass.new }
         ensures errors { KeepsErrors pass.old pass.new }
@@ -117,20 +128,22 @@ impl<T: Tenant> Ids<T> {
     fn reserve_first(&self, pass: &mut Pass<T>, range: u32) -> Reserve
         requires own { IsPassOf self.now pass.old }
         ensures own { IsPassOf self.now pass.new }
-        ensures answer { IsReserved self.now.sizes.slots range pass.old result pass.new }
+        ensures answer { IsReserved self.now.sizes range pass.old result pass.new }
         ensures errors { KeepsErrors pass.old pass.new }
     {
         if range < 1 || range > 1024 {
             return Reserve::BadRange;
         }
+        let start = self.first_slot(pass);
         pass.words.clear();
-        let mut slot = 0;
-        while slot < self.sizes.slots {
+        let mut count = 0;
+        while count < self.sizes.slots {
+            let slot = (start + count) % self.sizes.slots;
             let word = self.look(pass, slot);
             if is_vacant(word) {
                 return self.reserve_from(pass, slot, word, range);
             }
-            slot += 1;
+            count += 1;
         }
         Reserve::Full
     }

@@ -1,10 +1,10 @@
-use Rattle.std.proofs.Common.{◌-◌}
+use Rattle.std.proofs.Common.{◌≡◌, ◌-◌}
 use Rattle.id_shared.specs.Claims.{KeepsErrors}
 use Rattle.id_shared.proofs.Looks.{IsLooking}
 use Rattle.id_shared.proofs.ids.Ids.reserve_first.Given as goal
 
-abbrev pub invariant-loop-slot : goal.invariant-loop-slot
-invariant-loop-slot g l = IsLooking l.self l.initial.pass.view l.slot l.pass × KeepsErrors l.initial.pass l.pass
+abbrev pub invariant-loop-count : goal.invariant-loop-count
+invariant-loop-count g l = IsLooking l.self l.start l.initial.pass.view l.count l.pass × KeepsErrors l.initial.pass l.pass
 
-abbrev pub decreases-loop-slot : goal.decreases-loop-slot
-decreases-loop-slot g l = l.self.sizes.slots - l.slot
+abbrev pub decreases-loop-count : goal.decreases-loop-count
+decreases-loop-count g l = l.self.sizes.slots - l.count
