@@ -135,7 +135,9 @@ fn words_that_are_refused(rt: HostRuntime) -> Result<(), Fail> {
 }
 
 const GENERATED: &str =
-    "open 64\nleaf x a,b,c retry=2 backup=50 timeout=400\nleaf y b,c retry=1 backup=-1 timeout=300\npar p fail=2 ok=0 timeout=600 x:index:cat y:same:cat x:split:cat\nsel s retry=1 timeout=-1 p x\nat 10 call 1 p u,v,w\nat 11 reply 1 1#0 0 t\njoin 1\n";
+    "open 64\nleaf x a,b,c retry=2 backup=50 timeout=400\nleaf y b,c retry=1 backup=-1 timeout=300\n\
+     par p fail=2 ok=0 timeout=600 x:index:cat y:same:cat x:split:cat\nsel s retry=1 timeout=-1 p x\n\
+     at 10 call 1 p u,v,w\nat 11 reply 1 1#0 0 t\njoin 1\n";
 
 /// The generated script of one call, its replay, and the line that sums that up; and a sink that fails.
 #[test]

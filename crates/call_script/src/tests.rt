@@ -130,7 +130,8 @@ fn typed_channels(rt: HostRuntime) -> Result<(), Fail> {
 #[test]
 fn typed_trees(rt: HostRuntime) -> Result<(), Fail> {
     let text =
-        "leaf x a retry=0 backup=-1 timeout=-1\npar p fail=0 ok=1 timeout=30 x:index:sum x:skip:drop\nsel s retry=2 timeout=-1 p x\npart q 2 retry=3 backup=4 fail=5 ok=6 timeout=7 split:cat c:1/2 b:0/3 a:0/2\n";
+        "leaf x a retry=0 backup=-1 timeout=-1\npar p fail=0 ok=1 timeout=30 x:index:sum x:skip:drop\n\
+         sel s retry=2 timeout=-1 p x\npart q 2 retry=3 backup=4 fail=5 ok=6 timeout=7 split:cat c:1/2 b:0/3 a:0/2\n";
     let script = read_script(rt.alloc(), Mode::Sim, text.as_bytes())
         .ok()
         .ok_or("the script is good")?;

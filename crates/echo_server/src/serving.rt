@@ -28,7 +28,8 @@ pub fn serve_loop<R: Wait, I: WireIn, O: WireOut, C: Clock>(
     wire_out: &mut O,
     clock: &mut C,
 ) -> Served
-    ensures served { HasServed echo.old echo.new (I.got wire_in.old) (I.got wire_in.new) (O.given wire_out.old) (O.given wire_out.new) (I.met wire_in.new) (I.faults wire_in.old) (I.faults wire_in.new) (O.faults wire_out.old) (O.faults wire_out.new) result }
+    ensures served { HasServed echo.old echo.new (I.got wire_in.old) (I.got wire_in.new) (O.given wire_out.old) (O.given wire_out.new)
+        (I.met wire_in.new) (I.faults wire_in.old) (I.faults wire_in.new) (O.faults wire_out.old) (O.faults wire_out.new) result }
     ensures reads { I.faults wire_in.old ≤ I.faults wire_in.new }
     ensures writes { O.faults wire_out.old ≤ O.faults wire_out.new }
     ensures open { O.closed wire_out.new ≡ O.closed wire_out.old }

@@ -43,7 +43,15 @@ pub const CHANGES_1: [(usize, usize, &str); 25] = [
 
 /// Three calls on two lanes, two of them in one slot: a backup request that wins, a cancel, a loss and a retry.
 pub const JOURNAL_2: &str =
-    "call 1 4294967297 3 0 0\ne 50 backup 0 0\ne 60 reply 0#1 0 6869 0 0\ncall 2 8589934593 3 1 5\ne 10 cancel 1 0\ncall 3 4294967300 3 0 70\ne 75 lost 0#0 1009 1 0\ne 80 reply 0#1 2001 - 0 1\nwire 0 end\nout 8589934594 796f\nout 4294967299 6869\nout 4294967302 -\nin 4294967299 0 6869 entry 1 1\nin 4294967302 2001 - entry 3 1\nin 4294967297 0 - stray\nin 12884901889 0 - stray\nin 4294967301 0 - gone 1073741824\nloss 8589934594 1009 5 gone 1075576832\nwire 1 fault\nout 4294967298 6869\nout 4294967301 -\nin 4294967298 0 6869 gone 1075576832\nin 0 0 - stray\nloss 4294967301 1009 1 entry 3 0\ntimer\nmark 50 50 4294967297 1007 entry 1 0\nmark 55 56 8589934593 1007 gone 1075576832\nmark 120 121 4294967300 1007 dropped 3\nmark 400 400 4294967297 1008 gone 4296671232\nlane 0\ncancel 4294967297 gone 1075576832\nlane 1\ncancel 8589934593 entry 2 0\n";
+    "call 1 4294967297 3 0 0\ne 50 backup 0 0\ne 60 reply 0#1 0 6869 0 0\ncall 2 8589934593 3 1 5\n\
+     e 10 cancel 1 0\ncall 3 4294967300 3 0 70\ne 75 lost 0#0 1009 1 0\ne 80 reply 0#1 2001 - 0 1\nwire 0 end\n\
+     out 8589934594 796f\nout 4294967299 6869\nout 4294967302 -\nin 4294967299 0 6869 entry 1 1\n\
+     in 4294967302 2001 - entry 3 1\nin 4294967297 0 - stray\nin 12884901889 0 - stray\n\
+     in 4294967301 0 - gone 1073741824\nloss 8589934594 1009 5 gone 1075576832\nwire 1 fault\nout 4294967298 6869\n\
+     out 4294967301 -\nin 4294967298 0 6869 gone 1075576832\nin 0 0 - stray\nloss 4294967301 1009 1 entry 3 0\n\
+     timer\nmark 50 50 4294967297 1007 entry 1 0\nmark 55 56 8589934593 1007 gone 1075576832\n\
+     mark 120 121 4294967300 1007 dropped 3\nmark 400 400 4294967297 1008 gone 4296671232\nlane 0\n\
+     cancel 4294967297 gone 1075576832\nlane 1\ncancel 8589934593 entry 2 0\n";
 
 /// The row, the line's number from 0, and what stands in its place.
 pub const CHANGES_2: [(usize, usize, &str); 46] = [
@@ -109,7 +117,9 @@ pub const CHANGES_2: [(usize, usize, &str); 46] = [
 
 /// A parallel call, and one that ends at its start.
 pub const JOURNAL_3: &str =
-    "call 7 4294967297 5 0 0\ne 3 reply 2#0 0 676f31 0 0\ne 4 reply 1#0 0 676f 0 1\ncall 9 8589934593 3 0 2\nwire 0 end\nout 4294967301 676f31\nout 4294967300 676f\nin 4294967301 0 676f31 entry 7 0\nin 4294967300 0 676f entry 7 1\ntimer\nmark 300 301 4294967297 1008 gone 1076625408\nlane 0\n";
+    "call 7 4294967297 5 0 0\ne 3 reply 2#0 0 676f31 0 0\ne 4 reply 1#0 0 676f 0 1\ncall 9 8589934593 3 0 2\n\
+     wire 0 end\nout 4294967301 676f31\nout 4294967300 676f\nin 4294967301 0 676f31 entry 7 0\n\
+     in 4294967300 0 676f entry 7 1\ntimer\nmark 300 301 4294967297 1008 gone 1076625408\nlane 0\n";
 
 /// The row, the line's number from 0, and what stands in its place.
 pub const CHANGES_3: [(usize, usize, &str); 11] = [
@@ -128,7 +138,9 @@ pub const CHANGES_3: [(usize, usize, &str); 11] = [
 
 /// A selective call: its first try is lost, its second one comes too late for the deadline.
 pub const JOURNAL_4: &str =
-    "call 4 4294967297 5 0 3\ne 5 lost 1#0 1009 0 0\ne 110 deadline 0 0\nwire 0 bad\nout 4294967300 71\nloss 4294967300 1009 0 entry 4 0\nwire 1 end\nout 4294967301 71\nin 4294967301 0 71 gone 1076625408\ntimer\nmark 103 110 4294967297 1008 entry 4 1\nlane 0\n";
+    "call 4 4294967297 5 0 3\ne 5 lost 1#0 1009 0 0\ne 110 deadline 0 0\nwire 0 bad\nout 4294967300 71\n\
+     loss 4294967300 1009 0 entry 4 0\nwire 1 end\nout 4294967301 71\nin 4294967301 0 71 gone 1076625408\ntimer\n\
+     mark 103 110 4294967297 1008 entry 4 1\nlane 0\n";
 
 /// The row, the line's number from 0, and what stands in its place.
 pub const CHANGES_4: [(usize, usize, &str); 5] = [

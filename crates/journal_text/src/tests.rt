@@ -9,7 +9,11 @@ const EXAMPLE: &str =
 
 /// Every kind of line, every fate, and every way in which a wire ends.
 const ALL_KINDS: &str =
-    "call 7 4294967297 6 0 12\ne 13 lost 2#1 1009 1 0\ne 14 backup 2 0\ne 1152921504606846975 deadline 0 1\ne 15 cancel 1 0\ncall 8 8589934593 2 1 13\nwire 0 end\nwire 1 fault\nout 4294967299 -\nout 4294967300 00ff\nin 0 0 - stray\nin 5 2002 0a gone 18446744073709551615\nloss 4294967299 1009 2 entry 7 0\nloss 4294967300 1009 0 dropped 7\nwire 2 bad\nwire 3 full\ntimer\nmark 14 15 4294967297 1007 entry 7 1\nmark 9 9 4294967297 1008 gone 0\nlane 0\nlane 1\ncancel 4294967297 entry 7 3\ncancel 4294967297 dropped 7\n";
+    "call 7 4294967297 6 0 12\ne 13 lost 2#1 1009 1 0\ne 14 backup 2 0\ne 1152921504606846975 deadline 0 1\n\
+     e 15 cancel 1 0\ncall 8 8589934593 2 1 13\nwire 0 end\nwire 1 fault\nout 4294967299 -\nout 4294967300 00ff\n\
+     in 0 0 - stray\nin 5 2002 0a gone 18446744073709551615\nloss 4294967299 1009 2 entry 7 0\n\
+     loss 4294967300 1009 0 dropped 7\nwire 2 bad\nwire 3 full\ntimer\nmark 14 15 4294967297 1007 entry 7 1\n\
+     mark 9 9 4294967297 1008 gone 0\nlane 0\nlane 1\ncancel 4294967297 entry 7 3\ncancel 4294967297 dropped 7\n";
 
 fn read<R: Abort>(rt: &R, alloc: Global, text: &[u8]) -> Result<rpc_model::Journal, JournalFault> {
     assert!(rt; text.len() < 1 << 32);

@@ -7,7 +7,8 @@ ghost use Rattle.model_laws.specs.Early.{DueMarksMayBeTakenAtOnce};
 ghost use Rattle.model_laws.specs.Earned.{GoodEndsNeedALiveReply, GoodNodesHaveAGoodLeaf};
 ghost use Rattle.model_laws.specs.Heard.{TextsNeedAReply, ToldAttemptsAreFew, ToldOnce};
 ghost use Rattle.model_laws.specs.Late.{LateLinesTellNothing};
-ghost use Rattle.model_laws.specs.Laws.{EndsStay, NodesStay, LeavesIssueFew, NodesAreOfThePlan, ParallelNodesAreEven, TriesAreFew, SendsAreOfTheState, SendsAreAttempts, NothingIsSentTwice, OffsetsAndMeaningsAreInverse, WeavesJoin};
+ghost use Rattle.model_laws.specs.Laws.{EndsStay, NodesStay, LeavesIssueFew, NodesAreOfThePlan, ParallelNodesAreEven, TriesAreFew};
+ghost use Rattle.model_laws.specs.Laws.{SendsAreOfTheState, SendsAreAttempts, NothingIsSentTwice, OffsetsAndMeaningsAreInverse, WeavesJoin};
 ghost use Rattle.model_laws.specs.Logs.{EndsAreTheMachines, TakenMarksWereSet};
 ghost use Rattle.model_laws.specs.Moments.{MomentsAreEarly};
 

@@ -125,14 +125,20 @@ unfolding told tells after retriable digits
 row-12 = refl
 
 -- a parallel channel below a parallel channel
-row-13 : runs 1024 (leaf (0 ∷ 1 ∷ []) 0 None (Some 500) ∷ par 1 0 (Some 500) (sub 0 map.Index merge.Cat ∷ sub 0 map.Index merge.Cat ∷ []) ∷ par 0 1 (Some 500) (sub 1 map.Same merge.Cat ∷ sub 0 map.Same merge.Cat ∷ []) ∷ [])
+row-13 : runs 1024 (leaf (0 ∷ 1 ∷ []) 0 None (Some 500)
+    ∷ par 1 0 (Some 500) (sub 0 map.Index merge.Cat ∷ sub 0 map.Index merge.Cat ∷ [])
+    ∷ par 0 1 (Some 500) (sub 1 map.Same merge.Cat ∷ sub 0 map.Same merge.Cat ∷ [])
+    ∷ [])
     (Call 0 1 2 (codes "z") ∷ Lose 1 1 2 0 1009 ∷ Reply 2 1 4 0 0 (codes "a") ∷ Join 1 ∷ [])
     ≡ (Ended 1 (Good (codes "a")) 3 ∷ [])
 unfolding told tells after retriable digits
 row-13 = refl
 
 -- a sub that ends at its start reaches the fail limit, and no later sub starts
-row-14 : runs 1024 (leaf (0 ∷ []) 0 None (Some 500) ∷ par 0 0 None (sub 0 map.Skip merge.Cat ∷ []) ∷ par 1 0 None (sub 0 map.Same merge.Cat ∷ sub 1 map.Same merge.Cat ∷ sub 0 map.Same merge.Cat ∷ []) ∷ [])
+row-14 : runs 1024 (leaf (0 ∷ []) 0 None (Some 500)
+    ∷ par 0 0 None (sub 0 map.Skip merge.Cat ∷ [])
+    ∷ par 1 0 None (sub 0 map.Same merge.Cat ∷ sub 1 map.Same merge.Cat ∷ sub 0 map.Same merge.Cat ∷ [])
+    ∷ [])
     (Call 0 1 2 (codes "z") ∷ Join 1 ∷ [])
     ≡ (Ended 1 (Bad 1005) 1 ∷ [])
 unfolding told tells after retriable digits
@@ -209,7 +215,15 @@ unfolding told tells after retriable digits
 row-24 = refl
 
 -- eight channels deep, and one channel used by several subs
-row-25 : runs 1024 (leaf (0 ∷ []) 0 None None ∷ par 0 0 None (sub 0 map.Same merge.Cat ∷ sub 0 map.Same merge.Cat ∷ []) ∷ sel 0 None (1 ∷ []) ∷ par 0 0 None (sub 2 map.Same merge.Cat ∷ []) ∷ sel 0 None (3 ∷ []) ∷ par 0 0 None (sub 4 map.Same merge.Cat ∷ []) ∷ sel 0 None (5 ∷ []) ∷ par 0 0 None (sub 6 map.Same merge.Cat ∷ sub 0 map.Same merge.Cat ∷ []) ∷ [])
+row-25 : runs 1024 (leaf (0 ∷ []) 0 None None
+    ∷ par 0 0 None (sub 0 map.Same merge.Cat ∷ sub 0 map.Same merge.Cat ∷ [])
+    ∷ sel 0 None (1 ∷ [])
+    ∷ par 0 0 None (sub 2 map.Same merge.Cat ∷ [])
+    ∷ sel 0 None (3 ∷ [])
+    ∷ par 0 0 None (sub 4 map.Same merge.Cat ∷ [])
+    ∷ sel 0 None (5 ∷ [])
+    ∷ par 0 0 None (sub 6 map.Same merge.Cat ∷ sub 0 map.Same merge.Cat ∷ [])
+    ∷ [])
     (Call 0 1 7 (codes "q") ∷ Reply 1 1 9 0 0 (codes "c") ∷ Reply 2 1 8 0 0 (codes "b") ∷ Reply 3 1 7 0 0 (codes "a") ∷ Join 1 ∷ [])
     ≡ (Ended 1 (Good (codes "abc")) 3 ∷ [])
 unfolding told tells after retriable digits

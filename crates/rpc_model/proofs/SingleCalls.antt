@@ -134,5 +134,15 @@ nested-depth = refl
 parted-depth : depth (chan.Sel (record { subs = 1 ∷ []; retry = 0; timeout = None }) ∷ parted) 1 ≡ 2
 parted-depth = refl
 
-missing : missing_part (chan.Part (record { parts = 2; tags = record { server = 0; part = 0; of = 2 } ∷ record { server = 1; part = 1; of = 3 } ∷ []; map = map.Same; merge = merge.Cat; retry = 0; backup = None; fail = 0; ok = 0; timeout = None }) ∷ []) 0 1 ≡ Some 1
+missing : missing_part (chan.Part (record {
+  parts = 2;
+  tags = record { server = 0; part = 0; of = 2 } ∷ record { server = 1; part = 1; of = 3 } ∷ [];
+  map = map.Same;
+  merge = merge.Cat;
+  retry = 0;
+  backup = None;
+  fail = 0;
+  ok = 0;
+  timeout = None;
+}) ∷ []) 0 1 ≡ Some 1
 missing = refl

@@ -1,5 +1,6 @@
 -- No version of a range stands for two things, and offsets and meanings are inverse.
-use Rattle.std.proofs.Common.{◌≡◌, ℕ, zero, suc, ◌+◌, ◌<◌, ◌≤◌, Bool, true, false, cond, not, ◌==◌, ◌&&◌, nat_lt, List, [], ◌∷◌, ◌++◌, length, position, slice_get, Option, Some, None, arith, refl, ap, sym, ◌∙◌, subst, length-append}
+use Rattle.std.proofs.Common.{◌≡◌, ℕ, zero, suc, ◌+◌, ◌<◌, ◌≤◌, Bool, true, false, cond, not, ◌==◌, ◌&&◌, nat_lt, Option, Some, None}
+use Rattle.std.proofs.Common.{List, [], ◌∷◌, ◌++◌, length, position, slice_get, arith, refl, ap, sym, ◌∙◌, subst, length-append}
 use Rattle.std.specs.List.{IsDistinct, AllByRecursion, position_or_len}
 use Rattle.std.specs.Option.{option_map}
 use Rattle.std.proofs.lemmas.Bool.Decides.{nat_tests}
@@ -7,7 +8,8 @@ use Rattle.std.proofs.lemmas.Map.Keys.{IsDistinct-cons, IsDistinct-head, IsDisti
 use Rattle.rpc_model.specs.declared.meaning.Meaning.{Meaning}
 use Rattle.rpc_model.specs.declared.meaning.Meaning.TheVariants.{Node, Attempt}
 use Rattle.rpc_model.specs.Plan.{Plan, leaf_plan, par_plan, sel_plan, Plans, last_plan, plan_then}
-use Rattle.rpc_model.specs.Versions.{node_versions, leaf_versions, is_same, nodes, nodes_of, possible_attempts, possible_attempts_of, attempt_versions, attempt_versions_of, versions, width, offset_of, meaning_of}
+use Rattle.rpc_model.specs.Versions.{node_versions, leaf_versions, is_same, nodes, nodes_of, possible_attempts, possible_attempts_of}
+use Rattle.rpc_model.specs.Versions.{attempt_versions, attempt_versions_of, versions, width, offset_of, meaning_of}
 
 -- ---- lists without repeats
 

@@ -98,8 +98,10 @@ pub fn shift_node(nodes: &mut Vec<Node>, ends: &mut Vec<End>, from: usize, to: u
     requires to_head { 0 < (end_at ends.old.items to).depth → (end_at ends.old.items to).head < length nodes.old.items }
     requires room { (end_at ends.old.items to).depth + 1 < 4294967296 }
     requires apart { from ≢ to }
-    ensures nodes { nodes.new.items ≡ set nodes.old.items (end_at ends.old.items from).head (linked nodes.old.items (end_at ends.old.items to) to (node_at nodes.old.items (end_at ends.old.items from).head).entry) }
-    ensures ends { ends.new.items ≡ set (set ends.old.items from (unlinked nodes.old.items (end_at ends.old.items from))) to (record { head = (end_at ends.old.items from).head; depth = (end_at ends.old.items to).depth + 1 }) }
+    ensures nodes { nodes.new.items ≡ set nodes.old.items (end_at ends.old.items from).head
+        (linked nodes.old.items (end_at ends.old.items to) to (node_at nodes.old.items (end_at ends.old.items from).head).entry) }
+    ensures ends { ends.new.items ≡ set (set ends.old.items from (unlinked nodes.old.items (end_at ends.old.items from))) to
+        (record { head = (end_at ends.old.items from).head; depth = (end_at ends.old.items to).depth + 1 }) }
 {
     let end = ends[from];
     let at = end.head as usize;

@@ -165,7 +165,8 @@ pub fn take(
     requires room { length (waiting_of (heap_items heap.old) chains.old) ≤ heap_capacity heap.old }
     ensures settled { IsSettled base.new (heap_items heap.new) chains.new }
     ensures due { MatchOption result (AreLater now (waiting_of (heap_items heap.new) chains.new)) (λ e. (e.moment ≤ now) × IsLeast e (waiting_of (heap_items heap.new) chains.new)) }
-    ensures kept { MatchOption result (AreAlike (waiting_of (heap_items heap.old) chains.old) (waiting_of (heap_items heap.new) chains.new)) (λ e. AreAlike (waiting_of (heap_items heap.old) chains.old) (e ∷ waiting_of (heap_items heap.new) chains.new)) }
+    ensures kept { MatchOption result (AreAlike (waiting_of (heap_items heap.old) chains.old) (waiting_of (heap_items heap.new) chains.new))
+        (λ e. AreAlike (waiting_of (heap_items heap.old) chains.old) (e ∷ waiting_of (heap_items heap.new) chains.new)) }
     ensures room { heap_capacity heap.old ≤ heap_capacity heap.new }
 {
     if heap.is_empty() {
@@ -185,7 +186,8 @@ fn take_top(
     requires none { heap_items heap.old ≡ [] → AreLater now (waiting_of (heap_items heap.old) chains.now) }
     ensures settled { IsSettled base (heap_items heap.new) chains.now }
     ensures due { MatchOption result (AreLater now (waiting_of (heap_items heap.new) chains.now)) (λ e. (e.moment ≤ now) × IsLeast e (waiting_of (heap_items heap.new) chains.now)) }
-    ensures kept { MatchOption result (AreAlike (waiting_of (heap_items heap.old) chains.now) (waiting_of (heap_items heap.new) chains.now)) (λ e. AreAlike (waiting_of (heap_items heap.old) chains.now) (e ∷ waiting_of (heap_items heap.new) chains.now)) }
+    ensures kept { MatchOption result (AreAlike (waiting_of (heap_items heap.old) chains.now) (waiting_of (heap_items heap.new) chains.now))
+        (λ e. AreAlike (waiting_of (heap_items heap.old) chains.now) (e ∷ waiting_of (heap_items heap.new) chains.now)) }
     ensures room { heap_capacity heap.old ≤ heap_capacity heap.new }
 {
     if top_moment(heap)? > now {
