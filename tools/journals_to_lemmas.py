@@ -97,6 +97,16 @@ def quoted(lines):
     return '"' + "".join(line + "\\n" for line in lines) + '"'
 
 
+def spread(lines, width=110):
+    """The same text as a literal over several lines of code, each of so many characters as far as a line fits."""
+    pieces = [""]
+    for line in (line + "\\n" for line in lines):
+        if pieces[-1] and len(pieces[-1]) + len(line) > width:
+            pieces.append("")
+        pieces[-1] += line
+    return '"' + "\\\n     ".join(pieces) + '"'
+
+
 def changed_line(row, at, lines):
     """A change as an element of the test's table, laid out as rt fmt lays it out."""
     parts = [str(row), str(at), quoted(lines)]
@@ -112,7 +122,7 @@ def rust(path):
             for row, (_, changed, _) in enumerate(base.rows, 1)
             for at, lines in changed
         ]
-        print(f"\n/// {base.name[0].upper() + base.name[1:]}.\npub const JOURNAL_{number}: &str =\n    {quoted(base.journal)};")
+        print(f"\n/// {base.name[0].upper() + base.name[1:]}.\npub const JOURNAL_{number}: &str =\n    {spread(base.journal)};")
         print("\n/// The row, the line's number from 0, and what stands in its place.")
         print(f"pub const CHANGES_{number}: [(usize, usize, &str); {len(changes)}] = [")
         print("\n".join(changes) + "\n];")

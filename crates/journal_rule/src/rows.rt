@@ -2,7 +2,8 @@
 
 /// One call and its reply.
 pub const JOURNAL_1: &str =
-    "call 1 4294967297 2 0 0\ne 0 reply 0#0 0 6869 0 0\nwire 0 end\nout 4294967298 6869\nin 4294967298 0 6869 entry 1 0\ntimer\nlane 0\n";
+    "call 1 4294967297 2 0 0\ne 0 reply 0#0 0 6869 0 0\nwire 0 end\nout 4294967298 6869\n\
+     in 4294967298 0 6869 entry 1 0\ntimer\nlane 0\n";
 
 /// The row, the line's number from 0, and what stands in its place.
 pub const CHANGES_1: [(usize, usize, &str); 25] = [
