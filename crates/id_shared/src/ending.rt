@@ -100,6 +100,7 @@ impl<T: Tenant> Ids<T> {
     /// The value's first id has to be the range's. Its log, which is the range's last one, has to begin with the log at
     /// the lock, and the receipts in the rest have to be among those handed out since, none twice. What it leaves out of
     /// them is dropped by this pass, and isn't handed out again. Errors that are left to hand out have to be this Hold's.
+    #[inline(always)]
     pub fn destroy(&self, pass: &mut Pass<T>, hold: Hold, value: T) -> u32
         requires own { IsPassOf self.now pass.old }
         requires hold { HasHold pass.old hold }
@@ -116,6 +117,7 @@ impl<T: Tenant> Ids<T> {
     }
 
     // Takes the slot again, and ends its range.
+    #[inline(always)]
     fn destroy_once(&self, pass: &mut Pass<T>, hold: Hold, value: T) -> u32
         requires own { IsPassOf self.now pass.old }
         requires hold { HasHold pass.old hold }
@@ -135,6 +137,7 @@ impl<T: Tenant> Ids<T> {
     }
 
     // The rest of `destroy`, after the load that took the slot again: puts the value home, and takes the errors that wait.
+    #[inline(always)]
     pub(crate) fn destroy_from(
         &self,
         seat: &mut Seat<Option<T>, View<T::Entry>>,

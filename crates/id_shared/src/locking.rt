@@ -47,6 +47,7 @@ impl<T: Tenant> Ids<T> {
     }
 
     // Locks a slot whose word was seen free.
+    #[inline(always)]
     pub(crate) fn lock_from(&self, pass: &mut Pass<T>, slot: u32, word: u64) -> TryLock<T>
         requires own { IsPassOf self.now pass.old }
         requires slot { slot < self.now.sizes.slots }
@@ -79,6 +80,7 @@ impl<T: Tenant> Ids<T> {
     /// `Held` and `Gone` come only where the word loaded in this call shows it, `NoSlot` exactly where the id names no
     /// slot of this table, and `Again` exactly where the exchange found another word than the free one. After each of
     /// these the pass has what it had. Once a pass has seen a range end, each of its ids is `Gone` for it.
+    #[inline(always)]
     pub fn try_lock(&self, pass: &mut Pass<T>, id: u64) -> TryLock<T>
         requires own { IsPassOf self.now pass.old }
         ensures own { IsPassOf self.now pass.new }
@@ -92,6 +94,7 @@ impl<T: Tenant> Ids<T> {
     }
 
     // Loads the word, and locks the range if it is free.
+    #[inline(always)]
     fn try_once(&self, pass: &mut Pass<T>, id: u64) -> TryLock<T>
         requires own { IsPassOf self.now pass.old }
         ensures own { IsPassOf self.now pass.new }

@@ -159,6 +159,20 @@ pub(crate) fn takes(
     }
 }
 
+// Reserves a range.
+fn reserves(ids: &Ids<Book>, pass: &mut Pass<Book>, range: u32) -> Option<Spot>
+    requires own { IsAtRest ids.now pass.old }
+    ensures own { IsAtRest ids.now pass.new }
+    ensures spot { IfSome result (λ c. HasSpot pass.new c) }
+{
+    match ids.reserve(pass, range) {
+        Reserve::Spot(spot) => Some(spot),
+        Reserve::Full => None,
+        Reserve::Again(_, _) => None,
+        Reserve::BadRange => None,
+    }
+}
+
 // Reserves a range and begins it, with an empty book that is unlocked.
 fn begins(ids: &Ids<Book>, pass: &mut Pass<Book>, range: u32, taken: Vec<Receipt>) -> Option<Owner>
     requires own { IsAtRest ids.now pass.old }
@@ -166,17 +180,11 @@ fn begins(ids: &Ids<Book>, pass: &mut Pass<Book>, range: u32, taken: Vec<Receipt
     ensures own { IsAtRest ids.now pass.new }
     ensures owner { IfSome result (λ c. HasOwner pass.new c) }
 {
-    match ids.reserve(pass, range) {
-        Reserve::Spot(spot) => {
-            let first = spot.first_id();
-            let (owner, hold, book) = ids.install(pass, spot, Book { first, taken });
-            releases(ids, pass, hold, book);
-            Some(owner)
-        }
-        Reserve::Full => None,
-        Reserve::Again(_, _) => None,
-        Reserve::BadRange => None,
-    }
+    let spot = reserves(ids, pass, range)?;
+    let first = spot.first_id();
+    let (owner, hold, book) = ids.install(pass, spot, Book { first, taken });
+    releases(ids, pass, hold, book);
+    Some(owner)
 }
 
 // The error with this code and number, as pass 1 posted it to the id with this offset.
