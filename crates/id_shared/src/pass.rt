@@ -34,8 +34,8 @@ impl<T: Tenant> Model for Pass<T> {
 }
 
 impl<T: Tenant> Pass<T> {
-    /// The words that the last call noted: after `reserve` those of the slots as it looked at them, after a `try_post` that looked at the
-    /// pass's nodes those of the nodes, from its first one on. A node's word is 0 where it is free.
+    /// The words that the last call noted: after `reserve` those of the slots in the order of its looks, after a `try_post`
+    /// that looked at the pass's nodes those of the nodes, from its first one on. A node's word is 0 where it is free.
     pub fn seen(&self) -> &[u64]
         ensures words { result.now ≡ self.now.words }
     {

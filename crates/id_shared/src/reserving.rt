@@ -97,7 +97,7 @@ impl<T: Tenant> Ids<T> {
             .store::<GiveUp>(&mut pass.seat, slot as usize, new);
     }
 
-    // The slot that a pass looks at first: the first slots of the passes lie apart, and that of pass 0 is slot 0.
+    // The slot that a pass looks at first.
     fn first_slot(&self, pass: &Pass<T>) -> u32
         requires own { IsPassOf self.now pass.now }
         ensures slot { result ≡ start_of self.now.sizes pass.now }
@@ -107,8 +107,8 @@ impl<T: Tenant> Ids<T> {
     }
 
     /// Reserves a slot for a range of this many ids: looks at the slots one after the other, counted round, and takes the first
-    /// vacant one. A table's only pass begins with slot 0. Where there are more, each begins at a slot of its own, as far apart as
-    /// may be, so that passes of several threads don't meet at the same words.
+    /// vacant one. Of `n` passes, pass `p` begins at slot `p * slots / n`, which for pass 0 is slot 0, so that passes of several
+    /// threads don't all meet at the same words. Where there are fewer slots than passes, some begin at one slot.
     ///
     /// `BadRange` comes exactly for a range outside 1 to 1,024, `Full` only where each slot's word loaded in this call
     /// wasn't vacant (`Pass::seen` has the words), and `Again` exactly where the exchange found another word than the
