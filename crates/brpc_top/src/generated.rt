@@ -58,7 +58,7 @@ fn load_text(alloc: Global, count: u32) -> Result<Vec<u8>, NoMemory>
 {
     let script = generated_script(alloc, count)?;
     let mut told = Vec::new(alloc);
-    replay(alloc, &script, &mut told)?;
+    replay(alloc, script, &mut told)?;
     summary_of(alloc, count, &told)
 }
 

@@ -1,7 +1,9 @@
 ghost use Rattle.std.specs.Prelude.{◌≡◌, map, string_bytes, IfOk};
 ghost use Rattle.rpc_model.specs.declared.script.Mode.TheVariants as mode;
 ghost use Rattle.rpc_model.specs.Script.{script};
+ghost use Rattle.rpc_model.specs.Fits.{Fits};
 ghost use Rattle.rpc_model.specs.Text.{told_text};
+ghost use Rattle.rpc_model.specs.Told.{told};
 ghost use Rattle.script_gen.specs.Generator.{generated};
 ghost use Rattle.brpc_top.specs.Answers.{IsReplay, IsDecided, IsRun, IsWritten, IsLoad, output, status_of, number_of};
 ghost use Rattle.brpc_top.specs.Words.{command_of};
@@ -14,8 +16,8 @@ use crate::status::Status;
 use crate::words::read_words;
 use call_script::{ScriptFault, read_script, write_refusal, write_told};
 use rpc_base::{Failed, NoMemory, Sink, Source};
-use rpc_model::{Mode, Told};
-use sim_run::replay;
+use rpc_model::{Mode, Script};
+use sim_run::Replaying;
 use std::alloc::Global;
 
 /// Runs the command that the words name and answers the status that the program ends with.
@@ -95,10 +97,8 @@ fn output_of(alloc: Global, bytes: Vec<u8>) -> Result<Output, NoMemory>
     match read_script(alloc, Mode::Sim, &bytes) {
         Ok(script) => {
             give_back(bytes);
-            let mut told = Vec::new(alloc);
-            replay(alloc, &script, &mut told)?;
             Ok(Output {
-                text: told_text_of(alloc, &told)?,
+                text: told_text_of(alloc, script)?,
                 status: Status::Done,
             })
         }
@@ -114,13 +114,17 @@ fn output_of(alloc: Global, bytes: Vec<u8>) -> Result<Output, NoMemory>
     }
 }
 
+/// What the joins of an accepted script tell, as text. Each line is written as soon as it is told, so that no list of them is
+/// held.
 #[tactic(auto, unfolding(rpc_model::specs::Text::told_text))]
-fn told_text_of(alloc: Global, told: &[Told]) -> Result<Vec<u8>, NoMemory>
-    ensures { IfOk result (λ text. text.items ≡ told_text told.now) }
+fn told_text_of(alloc: Global, script: Script) -> Result<Vec<u8>, NoMemory>
+    requires { Fits script }
+    ensures { IfOk result (λ text. text.items ≡ told_text (told script)) }
 {
+    let mut replaying = Replaying::begin(alloc, script)?;
     let mut text = Vec::new(alloc);
-    for line in told {
-        write_told(line, &mut text)?;
+    'told: while let Some(line) = replaying.next_told()? {
+        write_told(&line, &mut text)?;
     }
     Ok(text)
 }

@@ -1,7 +1,8 @@
--- One turn of the replay's loop.
-use Rattle.std.proofs.Common.{◌≡◌, ℕ, ◌+◌, ◌^◌, ◌<◌, ◌≤◌, nat_eq, false, List, ◌++◌, [], ◌∷◌, length, get_or, take, drop, Result, Ok, Err, OnErr, sym, ap, refl, ◌∙◌, append_assoc, subst}
+-- One turn of the replay: a line leaves those that are left, and stands behind those before.
+use Rattle.std.proofs.Common.{◌≡◌, ℕ, ◌+◌, ◌^◌, ◌<◌, ◌≤◌, nat_eq, false, List, ◌++◌, [], ◌∷◌, length, take, Result, Ok, Err, OnErr, sym, ap, refl, ◌∙◌, append_assoc, subst}
 use Rattle.std.proofs.Common.{arith, length-append}
-use Rattle.std.proofs.lemmas.List.{at_drop_more}
+use Rattle.std.specs.Prelude.{All}
+use Rattle.std.proofs.lemmas.List.Elements.{All-nil, All-head, All-tail}
 use Rattle.std.specs.List.{IsDistinct, AllByRecursion}
 use Rattle.std.specs.Map.{keys_of}
 use Rattle.rpc_model.specs.declared.script.Script.{Script}
@@ -9,61 +10,112 @@ use Rattle.rpc_model.specs.declared.script.Act.{Act}
 use Rattle.rpc_model.specs.declared.script.Act.TheVariants.{Call, Cancel, Reply, Lose, Tick, Join}
 use Rattle.rpc_model.specs.declared.told.Told.{Told}
 use Rattle.std.specs.declared.option.Option.{Option}
-use Rattle.rpc_model.specs.Limits.{called}
-use Rattle.rpc_model.specs.Fits.{Fits}
+use Rattle.rpc_model.specs.Limits.{called, IsAct, IsMoment}
+use Rattle.rpc_model.specs.Fits.{Fits, BeginsNarrow}
 use Rattle.model_laws.specs.Logs.{after_all}
-use Rattle.rpc_model.specs.Told.{Replay, unbegun, after, tells, told_from}
+use Rattle.rpc_model.specs.Told.{Replay, unbegun, after, tells, told_from, told}
 use Rattle.model_laws.specs.Early.{settled}
 use Rattle.model_laws.proofs.MomentsStay.{moments-early}
-use Rattle.model_laws.proofs.Early.{tells-same, after-settled}
+use Rattle.model_laws.proofs.Early.{after-settled, same-lines}
 use Rattle.sim_run.specs.declared.ticket.Ticket.{Ticket}
 use Rattle.sim_run.specs.Desk.{IsNew, IsFront}
+use Rattle.sim_run.specs.Replaying.{whole}
 
--- The plain machine's replay tells what this one tells, and both take the line alike.
-pub alike-tells : (script : Script) (now machine : Replay) (act : Act) → settled now ≡ settled machine → tells script now act ≡ tells script machine act
-alike-tells script now machine act alike = sym (tells-same script now act) ∙ ap (λ r. tells script r act) alike ∙ tells-same script machine act
+-- ---- a script's lines say nothing of what one line does
 
-pub alike-after : (script : Script) (now machine next : Replay) (act : Act) → settled now ≡ settled machine → settled next ≡ settled (after script now act)
-    → settled next ≡ settled (after script machine act)
-alike-after script now machine next act alike is = is ∙ sym (after-settled script now act) ∙ ap (λ r. settled (after script r act)) alike ∙ after-settled script machine act
+after-whole : (script : Script) (all : List Act) (r : Replay) (act : Act) → after (whole script all) r act ≡ after script r act
+unfolding after
+after-whole script all r (Call at call chan text) = refl
+after-whole script all r (Cancel at call) = refl
+after-whole script all r (Reply at call node attempt code text) = refl
+after-whole script all r (Lose at call node attempt code) = refl
+after-whole script all r (Tick at) = refl
+after-whole script all r (Join call) = refl
 
--- What was told, with what this line tells, goes on to the same.
-pub turn-tells : (script : Script) (replay next : Replay) (so_far now all : List Told) (acts : List Act) (i : ℕ) (act : Act) → i < length acts → act ≡ get_or acts i act
-    → so_far ++ told_from script replay (drop i acts) ≡ all → next ≡ after script replay act → now ≡ so_far ++ tells script replay act
-    → now ++ told_from script next (drop (i + 1) acts) ≡ all
-turn-tells script replay next so_far now all acts i act h item said n t =
-    let more : told_from script replay (drop i acts) ≡ tells script replay act ++ told_from script (after script replay act) (drop (i + 1) acts) =
-    at_drop_more (told_from script replay) acts i act h ∙ ap (λ (a : Act). told_from script replay (a ∷ drop (i + 1) acts)) (sym item) in
-    rw (t, n) (append_assoc so_far _ _ ∙ ap (λ (xs : List Told). so_far ++ xs) (sym more) ∙ said)
+tells-whole : (script : Script) (all : List Act) (r : Replay) (act : Act) → tells (whole script all) r act ≡ tells script r act
+unfolding tells
+tells-whole script all r (Call at call chan text) = refl
+tells-whole script all r (Cancel at call) = refl
+tells-whole script all r (Reply at call node attempt code text) = refl
+tells-whole script all r (Lose at call node attempt code) = refl
+tells-whole script all r (Tick at) = refl
+tells-whole script all r (Join call) = refl
 
--- Both reach the same moment.
-pub alike-reaches : (script : Script) (now machine : Replay) (act : Act) → settled now ≡ settled machine → (after script now act).reached ≡ (after script machine act).reached
-alike-reaches script now machine act alike =
-    ap (λ (r : Replay). r.reached) (sym (after-settled script now act) ∙ ap (λ r. settled (after script r act)) alike ∙ after-settled script machine act)
+told-whole : (script : Script) (all : List Act) (r : Replay) (acts : List Act) → told_from (whole script all) r acts ≡ told_from script r acts
+told-whole script all r [] = refl
+told-whole script all r (act ∷ acts) = rw (tells-whole script all r act, after-whole script all r act) (ap (λ ts. tells script r act ++ ts) (told-whole script all (after script r act) acts))
 
+after-all-whole : (script : Script) (all : List Act) (r : Replay) (acts : List Act) → after_all (whole script all) r acts ≡ after_all script r acts
+after-all-whole script all r [] = refl
+after-all-whole script all r (act ∷ acts) = rw (after-whole script all r act) (after-all-whole script all (after script r act) acts)
+
+-- A replay that begins has all of the script's lines left.
+pub told-begins : (script : Script) (r : Replay) → r ≡ unbegun → told_from (whole script []) r script.acts ≡ told script
+unfolding told
+told-begins script r is = rw is (told-whole script [] unbegun script.acts)
+
+-- ---- an accepted script without its lines
+
+none-called : IsDistinct nat_eq (called [])
+unfolding IsDistinct
+none-called = tt
+
+pub fits-rest : (script : Script) → Fits script → Fits (whole script [])
+fits-rest script fits = record {
+  moments = All-nil IsMoment;
+  acts = All-nil (IsAct (length script.chans));
+  calls_differ = none-called;
+  channels = fits.channels;
+  serves = fits.serves;
+  depths = fits.depths;
+  widths = All-nil (BeginsNarrow script.chans);
+  lines = omega arith;
+  some_slot = fits.some_slot;
+  few_slots = fits.few_slots;
+  few_servers = fits.few_servers;
+}
+
+-- ---- one line more
+
+-- The plain machine goes along: it differs in marks alone that calls have taken early.
 after-more : (script : Script) (replay : Replay) (acts : List Act) (act : Act) → after_all script replay (acts ++ act ∷ []) ≡ after script (after_all script replay acts) act
 after-more script replay [] act = refl
 after-more script replay (a ∷ acts) act = after-more script (after script replay a) acts act
 
--- the lines before this one led to this replay
-pub record HasLed (script : Script) (acts : List Act) (i : ℕ) (replay : Replay) : Type 0 where
-  pub before : List Act
-  pub all : acts ≡ before ++ drop i acts
-  pub is : replay ≡ after_all script unbegun before
-
-pub turn-led : (script : Script) (acts : List Act) (i : ℕ) (replay : Replay) (act : Act) → i < length acts → act ≡ get_or acts i act → HasLed script acts i replay
-    → HasLed script acts (i + 1) (after script replay act)
-turn-led script acts i replay act less item led =
-    let rest : drop i acts ≡ act ∷ drop (i + 1) acts = at_drop_more (λ xs. xs) acts i act less ∙ ap (λ (a : Act). a ∷ drop (i + 1) acts) (sym item) in
-    record {
-      before = led.before ++ act ∷ [];
-      all = led.all ∙ ap (λ xs. led.before ++ xs) rest ∙ sym (append_assoc led.before (act ∷ []) (drop (i + 1) acts));
-      is = ap (λ r. after script r act) led.is ∙ sym (after-more script unbegun led.before act);
-    }
+pub turn-led : (script : Script) (before : List Act) (act : Act) (now next : Replay) → settled now ≡ settled (after_all script unbegun before)
+    → settled next ≡ settled (after script now act) → settled next ≡ settled (after_all script unbegun (before ++ act ∷ []))
+turn-led script before act now next led is =
+    is ∙ sym (after-settled script now act) ∙ ap (λ r. settled (after script r act)) led ∙ after-settled script (after_all script unbegun before) act
+    ∙ ap settled (sym (after-more script unbegun before act))
 
 -- The moment that a line reaches is early.
-pub led-early : (script : Script) (acts : List Act) (i : ℕ) (replay : Replay) → Fits script → acts ≡ script.acts → HasLed script acts i replay → replay.reached < 2 ^ 60
-led-early script acts i replay fits same led = rw led.is (moments-early script led.before (drop i acts) fits (sym same ∙ led.all)).0
+pub turn-early : (script : Script) (before rest : List Act) (act : Act) (now : Replay) → Fits (whole script (before ++ act ∷ rest))
+    → settled now ≡ settled (after_all script unbegun before) → (after script now act).reached < 2 ^ 60
+turn-early script before rest act now fits led =
+    let all = before ++ act ∷ rest in
+    let early = (moments-early (whole script all) (before ++ act ∷ []) rest fits (sym (append_assoc before (act ∷ []) rest))).0 in
+    let same = ap (λ (r : Replay). r.reached) (turn-led script before act now (after script now act) led refl) in
+    let is = ap (λ (r : Replay). r.reached) (after-all-whole script all unbegun (before ++ act ∷ [])) in
+    rw same (rw is at early)
+
+all-at : (P : Act → Type 0) (before rest : List Act) (act : Act) → All P (before ++ act ∷ rest) → P act
+all-at P [] rest act h = All-head P act rest h
+all-at P (a ∷ before) rest act h = all-at P before rest act (All-tail P a (before ++ act ∷ rest) h)
+
+pub turn-act : (script : Script) (before rest : List Act) (act : Act) → Fits (whole script (before ++ act ∷ rest)) → IsAct (length script.chans) act
+turn-act script before rest act fits = all-at (IsAct (length script.chans)) before rest act fits.acts
+
+pub turn-narrow : (script : Script) (before rest : List Act) (act : Act) → Fits (whole script (before ++ act ∷ rest)) → BeginsNarrow script.chans act
+turn-narrow script before rest act fits = all-at (BeginsNarrow script.chans) before rest act fits.widths
+
+-- What is left is told by this line and the others.
+pub turn-left : (script : Script) (now next : Replay) (so_far after_it : List Told) (act : Act) (rest : List Act)
+    → settled next ≡ settled (after script now act) → after_it ≡ so_far ++ tells script now act
+    → after_it ++ told_from script next rest ≡ so_far ++ told_from script now (act ∷ rest)
+turn-left script now next so_far after_it act rest is says =
+    rw (says, same-lines script rest next (after script now act) is) (append_assoc so_far (tells script now act) (told_from script (after script now act) rest))
+
+-- ---- the numbers of the calls so far and of the lines to come
 
 called-cons : (act : Act) (acts : List Act) → called (act ∷ acts) ≡ called (act ∷ []) ++ called acts
 called-cons (Call at call chan text) acts = refl
@@ -81,18 +133,13 @@ called-few (Lose at call node attempt code) = omega arith
 called-few (Tick at) = omega arith
 called-few (Join call) = omega arith
 
--- the numbers of the calls so far and of the lines to come
-turn-called : (keys : List ℕ) (acts : List Act) (i : ℕ) (act : Act) → i < length acts → act ≡ get_or acts i act
-    → keys ++ called (drop i acts) ≡ (keys ++ called (act ∷ [])) ++ called (drop (i + 1) acts)
-turn-called keys acts i act h item =
-    ap (λ (xs : List ℕ). keys ++ xs) (at_drop_more called acts i act h ∙ ap (λ (a : Act). called (a ∷ drop (i + 1) acts)) (sym item) ∙ called-cons act (drop (i + 1) acts))
-    ∙ sym (append_assoc keys _ _)
+turn-called : (keys : List ℕ) (act : Act) (rest : List Act) → keys ++ called (act ∷ rest) ≡ (keys ++ called (act ∷ [])) ++ called rest
+turn-called keys act rest = ap (λ (xs : List ℕ). keys ++ xs) (called-cons act rest) ∙ sym (append_assoc keys _ _)
 
 -- They stay distinct.
-pub turn-distinct : (keys next : List ℕ) (acts : List Act) (i : ℕ) (act : Act) → i < length acts → act ≡ get_or acts i act → IsDistinct nat_eq (keys ++ called (drop i acts))
-    → next ≡ keys ++ called (act ∷ [])
-    → IsDistinct nat_eq (next ++ called (drop (i + 1) acts))
-turn-distinct keys next acts i act h item d n = rw n (subst (IsDistinct nat_eq) (turn-called keys acts i act h item) d)
+pub turn-distinct : (keys next : List ℕ) (act : Act) (rest : List Act) → IsDistinct nat_eq (keys ++ called (act ∷ rest)) → next ≡ keys ++ called (act ∷ [])
+    → IsDistinct nat_eq (next ++ called rest)
+turn-distinct keys next act rest d n = rw n (subst (IsDistinct nat_eq) (turn-called keys act rest) d)
 
 all-front : (P : ℕ → Type 0) (xs ys : List ℕ) → AllByRecursion P (xs ++ ys) → AllByRecursion P xs
 all-front P [] ys h = tt
@@ -104,14 +151,15 @@ distinct-front [] ys d = tt
 distinct-front (x ∷ xs) ys d = (all-front (λ y. nat_eq x y ≡ false) xs ys d.0, distinct-front xs ys d.1)
 
 -- The line's own number is new.
-pub turn-new : (entries : List (ℕ × Option Ticket)) (acts : List Act) (i : ℕ) (act : Act) → i < length acts → act ≡ get_or acts i act
-    → IsDistinct nat_eq (keys_of entries ++ called (drop i acts)) → IsNew entries act
-turn-new entries acts i act h item d =
-    distinct-front (keys_of entries ++ called (act ∷ [])) (called (drop (i + 1) acts)) (subst (IsDistinct nat_eq) (turn-called (keys_of entries) acts i act h item) d)
+pub turn-new : (entries : List (ℕ × Option Ticket)) (act : Act) (rest : List Act) → IsDistinct nat_eq (keys_of entries ++ called (act ∷ rest)) → IsNew entries act
+turn-new entries act rest d = distinct-front (keys_of entries ++ called (act ∷ [])) (called rest) (subst (IsDistinct nat_eq) (turn-called (keys_of entries) act rest) d)
 
 -- One line begins one call at the most.
-pub turn-few : (keys next : List ℕ) (act : Act) (i : ℕ) → next ≡ keys ++ called (act ∷ []) → length keys ≤ i → length next ≤ i + 1
-turn-few keys next act i n few = omega (arith, ap length n, length-append keys (called (act ∷ [])), called-few act, few)
+pub turn-few : (keys next : List ℕ) (before : List Act) (act : Act) → next ≡ keys ++ called (act ∷ []) → length keys ≤ length before
+    → length next ≤ length (before ++ act ∷ [])
+turn-few keys next before act n few = omega (arith, ap length n, length-append keys (called (act ∷ [])), length-append before (act ∷ []), called-few act, few)
+
+-- ---- fronts
 
 take-front : (xs ys : List Told) → take (length xs) (xs ++ ys) ≡ xs
 take-front [] ys = refl

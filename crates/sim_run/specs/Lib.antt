@@ -9,4 +9,5 @@ pub mod Called
 pub mod Calls
 pub mod Slots
 pub mod Desk
+pub mod Replaying
 pub mod Closing

@@ -19,4 +19,4 @@ mod wait;
 mod wire;
 mod wires;
 
-pub use replaying::replay;
+pub use replaying::{Replaying, replay};

@@ -26,7 +26,7 @@ use crate::slots::{bring, deliver, join, lose, take_slot};
 use crate::ticket::Ticket;
 use crate::timer::Timer;
 use crate::turn::Turn;
-use crate::wire::{Wire, clone_bytes};
+use crate::wire::Wire;
 use crate::wires::{forget, open_wires, receive};
 use call_tree::Effects;
 use id_pool::Pool;
@@ -132,7 +132,7 @@ impl Replay {
         plans: &mut Plans,
         call: u32,
         chan: u32,
-        text: &Bytes,
+        text: Bytes,
         told: &mut Vec<Told>,
     ) -> Result<(), NoMemory>
         requires fits { Fits script.now }
@@ -144,8 +144,8 @@ impl Replay {
         requires narrow { IsNarrow (plan script.now.chans chan call) }
         requires new { lookup (nat_eq call) self.old.calls.entries ≡ None }
         ensures ready { OnOk result (IsReady script.now self.new) }
-        ensures after { OnOk result (replay_of self.new ≡ spec.call_after script.now (replay_of self.old) self.old.reached call text.now (plan script.now.chans chan call)) }
-        ensures wires { OnOk result (self.new.wires.items ≡ first_wires (lowest self.old.pool) (plan script.now.chans chan call) call text.now self.old) }
+        ensures after { OnOk result (replay_of self.new ≡ spec.call_after script.now (replay_of self.old) self.old.reached call text (plan script.now.chans chan call)) }
+        ensures wires { OnOk result (self.new.wires.items ≡ first_wires (lowest self.old.pool) (plan script.now.chans chan call) call text self.old) }
         ensures tells { OnOk result (told.new.items ≡ told.old.items ++ spec.call_tells (spec.is_full script.now (replay_of self.old)) call (plan script.now.chans chan call)) }
         ensures calls { OnOk result (keys_of self.new.calls.entries ≡ keys_of self.old.calls.entries ++ call ∷ []) }
         ensures planned { OnOk result (IsPlanned script.now.chans plans.new) }
@@ -154,7 +154,6 @@ impl Replay {
         let plan = plans.of_call(alloc, script, chan, call)?;
         let width = plan.width();
         let shared = plan.clone()?;
-        let text = clone_bytes(alloc, text)?;
         let spare = self.marks.take_spare();
         let (open, effects) = OpenCall::begin(alloc, call, shared, text, self.reached, spare)?;
         let Some(first) = take_slot(&mut self.pool, width, open) else {
@@ -205,13 +204,12 @@ impl Replay {
     /// names no attempt of the call's plan has no id by which a frame could come.
     fn reply(
         &mut self,
-        alloc: Global,
         script: &Script,
         call: u32,
         node: u32,
         attempt: u32,
         code: u32,
-        text: &Bytes,
+        text: Bytes,
     ) -> Result<(), NoMemory>
         requires fits { Fits script.now }
         requires ready { IsReady script.now self.old }
@@ -219,17 +217,16 @@ impl Replay {
         requires settled { AreSettled self.old.reached self.old.pool }
         requires early { self.old.reached < 2 ^ 60 }
         requires code { code ≤ 65535 }
-        requires text { length text.now ≤ 60000 }
+        requires text { length text ≤ 60000 }
         ensures ready { OnOk result (IsReady script.now self.new) }
-        ensures after { OnOk result (replay_of self.new ≡ spec.call_event (replay_of self.old) self.old.reached call (event.Reply node attempt code text.now)) }
-        ensures wires { OnOk result (self.new.wires.items ≡ reply_wires (ticket_of call self.old) call node attempt code text.now self.old) }
+        ensures after { OnOk result (replay_of self.new ≡ spec.call_event (replay_of self.old) self.old.reached call (event.Reply node attempt code text)) }
+        ensures wires { OnOk result (self.new.wires.items ≡ reply_wires (ticket_of call self.old) call node attempt code text self.old) }
         ensures calls { OnOk result (self.new.calls ≡ self.old.calls) }
     {
         let Some(ticket) = self.ticket(call) else {
             return Ok(());
         };
         let Some(aim) = ticket.aim(call, node, attempt, script.servers) else {
-            let text = clone_bytes(alloc, text)?;
             let event = Event::Reply {
                 node,
                 attempt,
@@ -239,7 +236,7 @@ impl Replay {
             self.event(script, call, event)?;
             return Ok(());
         };
-        let reply = receive(&mut self.wires, aim.server, aim.id, code, text)?;
+        let reply = receive(&mut self.wires, aim.server, aim.id, code, &text)?;
         deliver(
             &mut self.pool,
             &mut self.wires,
@@ -338,22 +335,22 @@ impl Replay {
         alloc: Global,
         script: &Script,
         plans: &mut Plans,
-        act: &Act,
+        act: Act,
         told: &mut Vec<Told>,
     ) -> Result<(), NoMemory>
         requires fits { Fits script.now }
         requires ready { IsReady script.now self.old }
         requires planned { IsPlanned script.now.chans plans.old }
         requires few { length self.old.calls.entries ≤ 500000 }
-        requires early { (spec.after script.now (replay_of self.old) act.now).reached < 2 ^ 60 }
-        requires act { IsAct (length script.now.chans) act.now }
-        requires narrow { BeginsNarrow script.now.chans act.now }
-        requires new { IsNew self.old.calls.entries act.now }
+        requires early { (spec.after script.now (replay_of self.old) act).reached < 2 ^ 60 }
+        requires act { IsAct (length script.now.chans) act }
+        requires narrow { BeginsNarrow script.now.chans act }
+        requires new { IsNew self.old.calls.entries act }
         ensures ready { OnOk result (IsReady script.now self.new) }
-        ensures after { OnOk result (settled (replay_of self.new) ≡ settled (spec.after script.now (replay_of self.old) act.now)) }
-        ensures reached { OnOk result (self.new.reached ≡ (spec.after script.now (replay_of self.old) act.now).reached) }
-        ensures tells { OnOk result (told.new.items ≡ told.old.items ++ spec.tells script.now (replay_of self.old) act.now) }
-        ensures calls { OnOk result (keys_of self.new.calls.entries ≡ keys_of self.old.calls.entries ++ called (act.now ∷ [])) }
+        ensures after { OnOk result (settled (replay_of self.new) ≡ settled (spec.after script.now (replay_of self.old) act)) }
+        ensures reached { OnOk result (self.new.reached ≡ (spec.after script.now (replay_of self.old) act).reached) }
+        ensures tells { OnOk result (told.new.items ≡ told.old.items ++ spec.tells script.now (replay_of self.old) act) }
+        ensures calls { OnOk result (keys_of self.new.calls.entries ≡ keys_of self.old.calls.entries ++ called (act ∷ [])) }
         ensures planned { OnOk result (IsPlanned script.now.chans plans.new) }
         ensures kept { OnErr result (told.new.items ≡ told.old.items) }
     {
@@ -364,12 +361,12 @@ impl Replay {
                 chan,
                 text,
             } => {
-                self.reach(script, self.reached.max(*at))?;
-                self.call(alloc, script, plans, *call, *chan, text, told)
+                self.reach(script, self.reached.max(at))?;
+                self.call(alloc, script, plans, call, chan, text, told)
             }
             Act::Cancel { at, call } => {
-                self.reach(script, self.reached.max(*at))?;
-                self.event(script, *call, Event::Cancel)
+                self.reach(script, self.reached.max(at))?;
+                self.event(script, call, Event::Cancel)
             }
             Act::Reply {
                 at,
@@ -379,8 +376,8 @@ impl Replay {
                 code,
                 text,
             } => {
-                self.reach(script, self.reached.max(*at))?;
-                self.reply(alloc, script, *call, *node, *attempt, *code, text)
+                self.reach(script, self.reached.max(at))?;
+                self.reply(script, call, node, attempt, code, text)
             }
             Act::Lose {
                 at,
@@ -389,11 +386,11 @@ impl Replay {
                 attempt,
                 code,
             } => {
-                self.reach(script, self.reached.max(*at))?;
-                self.lose(script, *call, *node, *attempt, *code)
+                self.reach(script, self.reached.max(at))?;
+                self.lose(script, call, node, attempt, code)
             }
-            Act::Tick { at } => self.reach(script, self.reached.max(*at)),
-            Act::Join { call } => self.join(script, *call, told),
+            Act::Tick { at } => self.reach(script, self.reached.max(at)),
+            Act::Join { call } => self.join(script, call, told),
         }
     }
 }

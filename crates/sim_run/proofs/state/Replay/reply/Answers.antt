@@ -18,7 +18,7 @@ use Rattle.sim_run.proofs.state.Replay.reply.Goals as goal
 
 pub returns-in_default-clause-after : goal.returns-in_default-clause-after
 returns-in_default-clause-after c =
-    let said = event.Reply c.args.node c.args.attempt c.args.code c.args.text.now in
+    let said = event.Reply c.args.node c.args.attempt c.args.code c.args.text in
     event-replay c.args.self.now c.args.self.now c.args.call said (no-event c.args.script.now c.args.self.now c.args.call said c.args.self.now.reached c.requires.ready c.in_default.ensures) refl refl
 
 pub aim-requires-clause-low : goal.aim-requires-clause-low
@@ -46,7 +46,7 @@ deliver-requires-clause-few c =
 
 pub returns-clause-ready : goal.returns-clause-ready
 returns-clause-ready c =
-    let what : ℕ → ℕ → Event = λ n k. event.Reply n k c.args.code c.args.text.now in
+    let what : ℕ → ℕ → Event = λ n k. event.Reply n k c.args.code c.args.text in
     let after = rw c.in_ok-reply.ensures.reply at c.in_ok-deliver.ensures.after in
     let acts = rw c.in_ok-reply.ensures.reply at c.in_ok-deliver.ensures.acts in
     let marks = ap (λ (p : List Link × List Mark). p.1) acts in
@@ -66,7 +66,7 @@ returns-clause-ready c =
     } in
     let came : AreWired c.args.script.now.servers c.args.self.now.pool c.args.self.now.calls.entries c.receive.new.wires.items =
     rw c.in_ok-reply.ensures.wire (wired-in c.args.script.now.servers c.args.self.now.pool c.args.self.now.calls.entries c.args.self.now.wires.items
-    (came_in c.args.call c.in-Some-aim.aim.server (record { id = c.in-Some-aim.aim.id; code = c.args.code; text = c.args.text.now })) aimed (λ c. refl) c.requires.ready.wired) in
+    (came_in c.args.call c.in-Some-aim.aim.server (record { id = c.in-Some-aim.aim.id; code = c.args.code; text = c.args.text })) aimed (λ c. refl) c.requires.ready.wired) in
     let left =
     attempt-wired c.args.script.now c.args.self.now c.receive.new.wires.items c.args.call c.in-Some.ticket.now c.args.node c.args.attempt c.in-Some-aim.aim.id what c.requires.ready
     c.requires.few c.requires.settled c.in-Some.ensures c.in-Some-aim.ensures.id came b.follows in
@@ -75,7 +75,7 @@ returns-clause-ready c =
 
 pub returns-clause-after : goal.returns-clause-after
 returns-clause-after c =
-    let what : ℕ → ℕ → Event = λ n k. event.Reply n k c.args.code c.args.text.now in
+    let what : ℕ → ℕ → Event = λ n k. event.Reply n k c.args.code c.args.text in
     let after = rw c.in_ok-reply.ensures.reply at c.in_ok-deliver.ensures.after in
     let acts = rw c.in_ok-reply.ensures.reply at c.in_ok-deliver.ensures.acts in
     let marks = ap (λ (p : List Link × List Mark). p.1) acts in
@@ -88,23 +88,23 @@ returns-clause-after c =
     event-replay c.args.self.now new c.args.call (what c.args.node c.args.attempt) here.follows refl refl
 
 pub returns-in_default-clause-wires : goal.returns-in_default-clause-wires
-returns-in_default-clause-wires c = ap (λ o. reply_wires o c.args.call c.args.node c.args.attempt c.args.code c.args.text.now c.args.self.now) c.in_default.ensures
+returns-in_default-clause-wires c = ap (λ o. reply_wires o c.args.call c.args.node c.args.attempt c.args.code c.args.text c.args.self.now) c.in_default.ensures
 
 pub returns-in_default-aim-clause-wires : goal.returns-in_default-aim-clause-wires
 returns-in_default-aim-clause-wires c =
-    let what : ℕ → ℕ → Event = λ n k. event.Reply n k c.args.code c.args.text.now in
-    let change : ℕ → Link → Link = λ id. received (record { id = id; code = c.args.code; text = c.args.text.now }) in
+    let what : ℕ → ℕ → Event = λ n k. event.Reply n k c.args.code c.args.text in
+    let change : ℕ → Link → Link = λ id. received (record { id = id; code = c.args.code; text = c.args.text }) in
     let is =
-    c.in_ok-event.ensures.wires ∙ ap (λ t. event_wires (ticket_of c.args.call c.args.self.now) (event.Reply c.args.node c.args.attempt c.args.code t) c.args.self.now) c.in_ok-text.ensures
-    ∙ sym (ap (λ o. event_wires o (event.Reply c.args.node c.args.attempt c.args.code c.args.text.now) c.args.self.now) c.in-Some.ensures) in
+    c.in_ok-event.ensures.wires
+    ∙ sym (ap (λ o. event_wires o (event.Reply c.args.node c.args.attempt c.args.code c.args.text) c.args.self.now) c.in-Some.ensures) in
     unaimed-wires change what c.args.self.now c.event.new.self.wires.items c.in-Some.ticket.now c.args.call c.args.node c.args.attempt is c.in_default-aim.ensures.none
-    ∙ ap (λ o. reply_wires o c.args.call c.args.node c.args.attempt c.args.code c.args.text.now c.args.self.now) c.in-Some.ensures
+    ∙ ap (λ o. reply_wires o c.args.call c.args.node c.args.attempt c.args.code c.args.text c.args.self.now) c.in-Some.ensures
 
 pub returns-clause-wires : goal.returns-clause-wires
 returns-clause-wires c =
-    let what : ℕ → ℕ → Event = λ n k. event.Reply n k c.args.code c.args.text.now in
-    let change : ℕ → Link → Link = λ id. received (record { id = id; code = c.args.code; text = c.args.text.now }) in
+    let what : ℕ → ℕ → Event = λ n k. event.Reply n k c.args.code c.args.text in
+    let change : ℕ → Link → Link = λ id. received (record { id = id; code = c.args.code; text = c.args.text }) in
     let acts = rw c.in_ok-reply.ensures.reply at c.in_ok-deliver.ensures.acts in
     aimed-wires change what c.args.self.now c.deliver.new.wires.items c.receive.new.wires.items c.in-Some.ticket.now c.args.call c.args.node c.args.attempt c.in-Some-aim.aim.id
     c.in-Some-aim.aim.server (ap (λ (p : List Link × List Mark). p.0) acts) c.in_ok-reply.ensures.wire c.in-Some-aim.ensures.server c.in-Some-aim.ensures.id
-    ∙ ap (λ o. reply_wires o c.args.call c.args.node c.args.attempt c.args.code c.args.text.now c.args.self.now) c.in-Some.ensures
+    ∙ ap (λ o. reply_wires o c.args.call c.args.node c.args.attempt c.args.code c.args.text c.args.self.now) c.in-Some.ensures
