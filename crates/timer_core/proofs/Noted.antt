@@ -1,5 +1,6 @@
 -- Which lists have an entry is noted: what a step leaves of that, and what it tells.
-use Rattle.std.proofs.Common.{◌≡◌, ◌≢◌, ℕ, ◌<◌, ltb, inl, inr, true, false, List, [], ◌∷◌, ◌++◌, length, set, arith, refl, sym, ap, ◌∙◌, subst, get_or-set_other, length-set}
+use Rattle.std.proofs.Common.{◌≡◌, ℕ, ◌+◌, ◌-◌, ◌<◌, ltb, inl, inr, true, false, List, [], ◌∷◌, ◌++◌}
+use Rattle.std.proofs.Common.{length, set, arith, refl, sym, ap, ◌∙◌, subst, get_or-set_other, get_or-set_same, length-set}
 use Rattle.std.proofs.lemmas.Bool.{cases_lt, cases_eq}
 use Rattle.std.proofs.lemmas.Bool.Decides.{nat_tests}
 use Rattle.std.proofs.lemmas.List.{get_or_past, get_or_append_left, get_or_push, length_push}
@@ -7,31 +8,48 @@ use Rattle.bit_set.specs.Bits.{is_in, AreNone, IsLeast}
 use Rattle.timer_core.specs.declared.entry.Entry.{Entry}
 use Rattle.timer_core.specs.declared.links.Node.{Node}
 use Rattle.timer_core.specs.declared.links.End.{End}
-use Rattle.timer_core.specs.Chains.{no_nodes, end_at, lists_of, list_at, IsNoted, AreNoted, IsTable}
+use Rattle.timer_core.specs.Chains.{no_nodes, end_at, lists_of, list_at, unlinked, IsNoted, AreNoted, IsTable}
 use Rattle.timer_core.specs.Wheel.{IsFirstList}
 use Rattle.timer_core.proofs.Told.{counted, vacant_told, vacant_depth}
 
 -- one list changes
-pub one_noted : (ends : List End) (list : ℕ) (end : End) (old new : List ℕ) → list < length ends → AreNoted ends old → IsNoted list (end_at (set ends list end) list) old new
-    → AreNoted (set ends list end) new
+pub one_noted : (ends : List End) (list : ℕ) (end : End) (old new : List ℕ) → list < length ends → AreNoted ends old
+    → IsNoted list end.depth old new → AreNoted (set ends list end) new
 one_noted ends list end old new l a n =
     let long : length (set ends list end) ≡ length ends = length-set ends list end in
+    let there : end_at (set ends list end) list ≡ end = get_or-set_same ends list end no_nodes l in
     record {
       noted = λ k u h. elim (cases_eq k list) [
-        | inl e ↦ subst (λ i. is_in new i ≡ ltb 0 (end_at (set ends list end) i).depth) (sym e) (n.noted (omega (arith, u, e)))
+        | inl e ↦ subst (λ i. is_in new i ≡ ltb 0 (end_at (set ends list end) i).depth) (sym e)
+            (n.noted (omega (arith, u, e)) ∙ ap (λ (z : End). ltb 0 z.depth) (sym there))
         | inr d ↦ n.others k d ∙ a.noted k u (omega (arith, h, long)) ∙ ap (λ (z : End). ltb 0 z.depth) (sym (get_or-set_other ends list k end no_nodes d))
       ];
       free = elim (cases_eq 0 list) [ inl e ↦ n.free (sym e) ∙ a.free | inr d ↦ n.others 0 d ∙ a.free ];
       past = λ k h. n.others k (λ e. omega (arith, e, h, l, long)) ∙ a.past k (omega (arith, h, long));
     }
 
--- two lists change
-pub two_noted : (ends : List End) (from to : ℕ) (x y : End) (old mid new : List ℕ) → from < length ends → to < length ends → from ≢ to → AreNoted ends old
-    → IsNoted from (end_at (set (set ends from x) to y) from) old mid → IsNoted to (end_at (set (set ends from x) to y) to) mid new → AreNoted (set (set ends from x) to y) new
-two_noted ends from to x y old mid new f t apart a m n =
-    let long : length (set ends from x) ≡ length ends = length-set ends from x in
-    let there : end_at (set (set ends from x) to y) from ≡ end_at (set ends from x) from = get_or-set_other (set ends from x) to from y no_nodes apart in
-    one_noted (set ends from x) to y mid new (omega (arith, t, long)) (one_noted ends from x old mid f a (subst (λ (z : End). IsNoted from z old mid) there m)) n
+-- list 0 isn't noted
+pub free_noted : (depth : ℕ) (used : List ℕ) → IsNoted 0 depth used used
+free_noted depth used = record { noted = λ h. absurd (omega (arith, h)); free = λ e. refl; others = λ k d. refl }
+
+-- a node goes from one list to another
+module _ (nodes : List Node) (ends cut : List End) (from to : ℕ) (used : List ℕ)
+    (is : cut ≡ set ends from (unlinked nodes (end_at ends from))) (f : from < length ends) (t : to < length ends)
+    (a : AreNoted ends used) where
+  cut_long : length cut ≡ length ends
+  cut_long = ap (λ (zs : List End). length zs) is ∙ length-set ends from (unlinked nodes (end_at ends from))
+
+  -- both are noted then
+  pub shifted_noted : (more : List End) (x left depth : ℕ) (mid new : List ℕ)
+      → more ≡ set cut to (record { head = x; depth = (end_at cut to).depth + 1 })
+      → left ≡ (end_at ends from).depth → depth ≡ (end_at cut to).depth
+      → IsNoted from (left - 1) used mid → IsNoted to (depth + 1) mid new → AreNoted more new
+  shifted_noted more x left depth mid new there l d m n =
+      let half : AreNoted cut mid = subst (λ (zs : List End). AreNoted zs mid) (sym is)
+      (one_noted ends from (unlinked nodes (end_at ends from)) used mid f a (subst (λ i. IsNoted from (i - 1) used mid) l m)) in
+      let front : End = record { head = x; depth = (end_at cut to).depth + 1 } in
+      subst (λ (zs : List End). AreNoted zs new) (sym there)
+      (one_noted cut to front mid new (omega (arith, t, cut_long)) half (subst (λ i. IsNoted to (i + 1) mid new) d n))
 
 pub more_noted : (ends : List End) (used : List ℕ) → AreNoted ends used → AreNoted (ends ++ no_nodes ∷ []) used
 more_noted ends used a =
@@ -82,16 +100,14 @@ module _ (nodes : List Node) (ends : List End) (used : List ℕ) (ls : List (Lis
     ]
   ]
 
-pub one_noted_as : (ends more : List End) (list : ℕ) (end : End) (old new : List ℕ) → more ≡ set ends list end → list < length ends → AreNoted ends old
-    → IsNoted list (end_at more list) old new → AreNoted more new
-one_noted_as ends more list end old new is l a n =
-    subst (λ (zs : List End). AreNoted zs new) (sym is) (one_noted ends list end old new l a (subst (λ (zs : List End). IsNoted list (end_at zs list) old new) is n))
-
-pub two_noted_as : (ends more : List End) (from to : ℕ) (x y : End) (old mid new : List ℕ) → more ≡ set (set ends from x) to y → from < length ends → to < length ends → from ≢ to → AreNoted ends old
-    → IsNoted from (end_at more from) old mid → IsNoted to (end_at more to) mid new → AreNoted more new
-two_noted_as ends more from to x y old mid new is f t apart a m n =
+-- a new node in front of a list
+pub pushed_noted : (ends more : List End) (list x depth : ℕ) (old new : List ℕ)
+    → more ≡ set ends list (record { head = x; depth = (end_at ends list).depth + 1 })
+    → depth ≡ (end_at ends list).depth → list < length ends → AreNoted ends old → IsNoted list (depth + 1) old new → AreNoted more new
+pushed_noted ends more list x depth old new is d l a n =
+    let front : End = record { head = x; depth = (end_at ends list).depth + 1 } in
     subst (λ (zs : List End). AreNoted zs new) (sym is)
-    (two_noted ends from to x y old mid new f t apart a (subst (λ (zs : List End). IsNoted from (end_at zs from) old mid) is m) (subst (λ (zs : List End). IsNoted to (end_at zs to) mid new) is n))
+    (one_noted ends list front old new l a (subst (λ i. IsNoted list (i + 1) old new) d n))
 
 -- no lists
 pub empty_table : (nodes : List Node) (ends : List End) (used : List ℕ) → nodes ≡ [] → ends ≡ [] → AreNone used → IsTable nodes ends used

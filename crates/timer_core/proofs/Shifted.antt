@@ -7,7 +7,7 @@ use Rattle.std.proofs.lemmas.List.Sums.{sum_by-set, get_or-le-sum_by}
 use Rattle.timer_core.specs.declared.entry.Entry.{Entry}
 use Rattle.timer_core.specs.declared.links.Node.{Node}
 use Rattle.timer_core.specs.declared.links.End.{End}
-use Rattle.timer_core.specs.Chains.{blank_node, no_nodes, node_at, end_at, entries_from, entries_of, lists_of, list_at, least_of, rest_of, front_before, IsShifted, linked, unlinked, IsLink}
+use Rattle.timer_core.specs.Chains.{blank_node, no_nodes, node_at, end_at, entries_from, entries_of, lists_of, list_at, least_of, rest_of, linked, unlinked, IsLink}
 use Rattle.timer_core.specs.Chains.{IsChain, depth_of, AreChained}
 use Rattle.timer_core.proofs.Chained.{Agree, Lacks, entries_alike, chain_alike, lacks_other, lacks_deeper, agree_set, least_told, map_alike, list_told}
 
@@ -113,70 +113,79 @@ module _ (nodes : List Node) (ends : List End) (from : ℕ) (f : from < length e
 
 -- ---- from one list to another
 
-module _ (nodes : List Node) (ends : List End) (from to : ℕ) (kept : AreChained nodes ends) (f : from < length ends) (t : to < length ends) (apart : from ≢ to)
-    (some : 0 < (end_at ends from).depth) where
-  cut_to : end_at (set ends from (unlinked nodes (end_at ends from))) to ≡ end_at ends to
-  cut_to = get_or-set_other ends from to (unlinked nodes (end_at ends from)) no_nodes (λ s. apart (sym s))
+-- where the lists begin without the first node of one
+abbrev pub cut_of : List Node → List End → ℕ → List End
+cut_of nodes ends from = set ends from (unlinked nodes (end_at ends from))
 
-  cut_long : length (set ends from (unlinked nodes (end_at ends from))) ≡ length ends
-  cut_long = length-set ends from (unlinked nodes (end_at ends from))
+module _ (nodes : List Node) (ends : List End) (from to : ℕ) (kept : AreChained nodes ends) (f : from < length ends)
+    (t : to < length ends) (some : 0 < (end_at ends from).depth) where
+  pub cut_in : to < length (cut_of nodes ends from)
+  cut_in =
+      let long : length (cut_of nodes ends from) ≡ length ends = length-set ends from (unlinked nodes (end_at ends from)) in
+      omega (arith, t, long)
 
-  cut_sum : sum_by depth_of (set ends from (unlinked nodes (end_at ends from))) + 1 ≡ length nodes
+  cut_sum : sum_by depth_of (cut_of nodes ends from) + 1 ≡ length nodes
   cut_sum = let s = sum_by-set depth_of ends from (unlinked nodes (end_at ends from)) no_nodes f in omega (arith, s, kept.whole, some)
 
   -- there is room for one node more in the list
-  pub shift_room : (end_at ends to).depth + 1 < 4294967296
+  pub shift_room : (end_at (cut_of nodes ends from) to).depth + 1 < 4294967296
   shift_room =
-      let s : (end_at (set ends from (unlinked nodes (end_at ends from))) to).depth ≤ sum_by depth_of (set ends from (unlinked nodes (end_at ends from))) =
-      get_or-le-sum_by depth_of (set ends from (unlinked nodes (end_at ends from))) to no_nodes (omega (arith, t, cut_long)) in
-      let d : (end_at (set ends from (unlinked nodes (end_at ends from))) to).depth ≡ (end_at ends to).depth = ap (λ (z : End). z.depth) cut_to in
-      omega (arith, s, d, cut_sum, kept.few)
+      let s : (end_at (cut_of nodes ends from) to).depth ≤ sum_by depth_of (cut_of nodes ends from) =
+      get_or-le-sum_by depth_of (cut_of nodes ends from) to no_nodes cut_in in
+      omega (arith, s, cut_sum, kept.few)
+
+  -- and its first node is known
+  pub shift_head : 0 < (end_at (cut_of nodes ends from) to).depth → (end_at (cut_of nodes ends from) to).head < length nodes
+  shift_head h =
+      first_within nodes to (end_at (cut_of nodes ends from) to) h (detached_chains nodes ends from f some kept.lists to cut_in).0
 
   x_in : (end_at ends from).head < length nodes
   x_in = first_within nodes from (end_at ends from) some (kept.lists from f)
 
-  chains : (n : Node) (k : ℕ) → k < length (set ends from (unlinked nodes (end_at ends from)))
-      → IsChain nodes k (end_at (set ends from (unlinked nodes (end_at ends from))) k).depth (end_at (set ends from (unlinked nodes (end_at ends from))) k).head × Agree nodes
-      (set nodes (end_at ends from).head n) (end_at (set ends from (unlinked nodes (end_at ends from))) k).depth (end_at (set ends from (unlinked nodes (end_at ends from))) k).head
+  chains : (n : Node) (k : ℕ) → k < length (cut_of nodes ends from)
+      → IsChain nodes k (end_at (cut_of nodes ends from) k).depth (end_at (cut_of nodes ends from) k).head
+      × Agree nodes (set nodes (end_at ends from).head n) (end_at (cut_of nodes ends from) k).depth (end_at (cut_of nodes ends from) k).head
   chains n k h =
-      let both = detached_chains nodes ends from f some kept.lists k h in (
-        both.0,
-        agree_set nodes (end_at ends from).head n (end_at (set ends from (unlinked nodes (end_at ends from))) k).depth
-            (end_at (set ends from (unlinked nodes (end_at ends from))) k).head both.1,
-      )
+      let both = detached_chains nodes ends from f some kept.lists k h in
+      let end : End = end_at (cut_of nodes ends from) k in
+      (both.0, agree_set nodes (end_at ends from).head n end.depth end.head both.1)
 
   -- each node still stands in one list
-  pub shift_kept : AreChained (set nodes (end_at ends from).head (linked nodes (end_at ends to) to (node_at nodes (end_at ends from).head).entry))
-      (set (set ends from (unlinked nodes (end_at ends from))) to (longer (end_at ends from).head (end_at ends to)))
-  shift_kept =
-      let n : Node = linked nodes (end_at ends to) to (node_at nodes (end_at ends from).head).entry in
+  pub shift_kept : (e : Entry) → AreChained (set nodes (end_at ends from).head (linked nodes (end_at (cut_of nodes ends from) to) to e))
+      (set (cut_of nodes ends from) to (longer (end_at ends from).head (end_at (cut_of nodes ends from) to)))
+  shift_kept e =
+      let b : End = end_at (cut_of nodes ends from) to in
+      let n : Node = linked nodes b to e in
       let long : length (set nodes (end_at ends from).head n) ≡ length nodes = length-set nodes (end_at ends from).head n in
-      let t_in : to < length (set ends from (unlinked nodes (end_at ends from))) = omega (arith, t, cut_long) in
-      let s = sum_by-set depth_of (set ends from (unlinked nodes (end_at ends from))) to (longer (end_at ends from).head (end_at ends to)) no_nodes t_in in
-      let d : (end_at (set ends from (unlinked nodes (end_at ends from))) to).depth ≡ (end_at ends to).depth = ap (λ (z : End). z.depth) cut_to in
+      let ends_long : length (set (cut_of nodes ends from) to (longer (end_at ends from).head b)) ≡ length (cut_of nodes ends from) =
+      length-set (cut_of nodes ends from) to (longer (end_at ends from).head b) in
+      let cut_long : length (cut_of nodes ends from) ≡ length ends = length-set ends from (unlinked nodes (end_at ends from)) in
+      let s = sum_by-set depth_of (cut_of nodes ends from) to (longer (end_at ends from).head b) no_nodes cut_in in
       record {
-        lists = attached_chains nodes (set nodes (end_at ends from).head n) (set ends from (unlinked nodes (end_at ends from))) to (end_at ends from).head
-            (node_at nodes (end_at ends from).head).entry (end_at ends to) cut_to (omega (arith, long)) (omega (arith, x_in, long)) t_in
-            (get_or-set_same nodes (end_at ends from).head n blank_node x_in) (chains n);
-        whole = omega (arith, s, d, cut_sum, long);
+        lists = attached_chains nodes (set nodes (end_at ends from).head n) (cut_of nodes ends from) to (end_at ends from).head
+            e b refl (omega (arith, long))
+            (omega (arith, x_in, long)) cut_in (get_or-set_same nodes (end_at ends from).head n blank_node x_in) (chains n);
+        whole = omega (arith, s, cut_sum, long);
         few = omega (arith, long, kept.few);
-        many = omega (arith, length-set (set ends from (unlinked nodes (end_at ends from))) to (longer (end_at ends from).head (end_at ends to)), cut_long, kept.many);
+        many = omega (arith, ends_long, cut_long, kept.many);
       }
 
   -- the lists then
-  pub shift_lists : IsShifted from to (lists_of nodes ends) (lists_of (set nodes (end_at ends from).head (linked nodes (end_at ends to) to (node_at nodes (end_at ends from).head).entry))
-      (set (set ends from (unlinked nodes (end_at ends from))) to (longer (end_at ends from).head (end_at ends to))))
-  shift_lists =
-      let n : Node = linked nodes (end_at ends to) to (node_at nodes (end_at ends from).head).entry in
+  pub shift_lists : (e : Entry) → from ≢ to
+      → lists_of (set nodes (end_at ends from).head (linked nodes (end_at (cut_of nodes ends from) to) to e))
+      (set (cut_of nodes ends from) to (longer (end_at ends from).head (end_at (cut_of nodes ends from) to)))
+      ≡ set (set (lists_of nodes ends) from (rest_of (list_at (lists_of nodes ends) from))) to (e ∷ list_at (lists_of nodes ends) to)
+  shift_lists e apart =
+      let b : End = end_at (cut_of nodes ends from) to in
+      let n : Node = linked nodes b to e in
       let long : length (set nodes (end_at ends from).head n) ≡ length nodes = length-set nodes (end_at ends from).head n in
-      let t_in : to < length (set ends from (unlinked nodes (end_at ends from))) = omega (arith, t, cut_long) in
-      let whole : list_at (lists_of nodes ends) from ≡ (node_at nodes (end_at ends from).head).entry ∷ entries_of nodes (unlinked nodes (end_at ends from)) =
-      list_told nodes ends from ∙ rest_told nodes (end_at ends from) some in
-      let same : list_at (lists_of nodes (set ends from (unlinked nodes (end_at ends from)))) to ≡ list_at (lists_of nodes ends) to =
-      list_told nodes (set ends from (unlinked nodes (end_at ends from))) to ∙ ap (λ (z : End). entries_of nodes z) cut_to ∙ sym (list_told nodes ends to) in
-      attached_lists nodes (set nodes (end_at ends from).head n) (set ends from (unlinked nodes (end_at ends from))) to (end_at ends from).head (node_at nodes (end_at ends from).head).entry
-      (end_at ends to) cut_to (omega (arith, long)) (omega (arith, x_in, long)) t_in (get_or-set_same nodes (end_at ends from).head n blank_node x_in) (chains n)
-      ∙ ap (λ (ls : List (List Entry)). set ls to ((node_at nodes (end_at ends from).head).entry ∷ list_at (lists_of nodes (set ends from (unlinked nodes (end_at ends from)))) to))
+      let other : end_at (cut_of nodes ends from) to ≡ end_at ends to =
+      get_or-set_other ends from to (unlinked nodes (end_at ends from)) no_nodes (λ s. apart (sym s)) in
+      let same : list_at (lists_of nodes (cut_of nodes ends from)) to ≡ list_at (lists_of nodes ends) to =
+      list_told nodes (cut_of nodes ends from) to ∙ ap (λ (z : End). entries_of nodes z) other ∙ sym (list_told nodes ends to) in
+      attached_lists nodes (set nodes (end_at ends from).head n) (cut_of nodes ends from) to (end_at ends from).head e b refl
+      (omega (arith, long)) (omega (arith, x_in, long)) cut_in
+      (get_or-set_same nodes (end_at ends from).head n blank_node x_in) (chains n)
+      ∙ ap (λ (ls : List (List Entry)). set ls to (e ∷ list_at (lists_of nodes (cut_of nodes ends from)) to))
       (detached_lists nodes ends from f some kept.lists)
-      ∙ ap (λ (es : List Entry). set (set (lists_of nodes ends) from (rest_of (list_at (lists_of nodes ends) from))) to ((node_at nodes (end_at ends from).head).entry ∷ es)) same
-      ∙ ap (λ (es : List Entry). set (set (lists_of nodes ends) from (rest_of (list_at (lists_of nodes ends) from))) to (front_before es (list_at (lists_of nodes ends) to))) (sym whole)
+      ∙ ap (λ (es : List Entry). set (set (lists_of nodes ends) from (rest_of (list_at (lists_of nodes ends) from))) to (e ∷ es)) same

@@ -9,7 +9,8 @@ use Rattle.timer_core.specs.declared.links.End.{End}
 use Rattle.timer_core.specs.Chains.{blank_node, no_nodes, node_at, end_at, entries_from, entries_of, lists_of, list_at, least_of, rest_of, front_before, IsShifted, least_at, linked}
 use Rattle.timer_core.specs.Chains.{unlinked, IsChain, depth_of, AreChained}
 use Rattle.timer_core.proofs.Chained.{Agree, agree_set, agree_push, least_told, list_told}
-use Rattle.timer_core.proofs.Shifted.{longer, attached_lists, attached_chains, detached_lists, detached_chains, first_within, rest_told, shift_room, shift_kept, shift_lists}
+use Rattle.timer_core.proofs.Shifted.{longer, attached_lists, attached_chains, detached_lists, detached_chains}
+use Rattle.timer_core.proofs.Shifted.{first_within, rest_told, cut_of, shift_room, shift_head, shift_kept, shift_lists}
 
 -- there are as many lists as ends
 pub counted : (nodes : List Node) (ends : List End) (ls : List (List Entry)) → lists_of nodes ends ≡ ls → length ends ≡ length ls
@@ -19,6 +20,9 @@ longer_unlinked : (nodes : List Node) (e : End) → 0 < e.depth → longer e.hea
 longer_unlinked nodes e h = let d : e.depth - 1 + 1 ≡ e.depth = omega arith in let put : ℕ → End = λ n. record { head = e.head; depth = n } in ap put d
 
 module _ (nodes : List Node) (ends : List End) (ls : List (List Entry)) (v : lists_of nodes ends ≡ ls) (k : ℕ) where
+  pub in_ends : k < length ls → k < length ends
+  in_ends h = omega (arith, h, counted nodes ends ls v)
+
   told : list_at ls k ≡ entries_of nodes (end_at ends k)
   told = ap (λ (zs : List (List Entry)). list_at zs k) (sym v) ∙ list_told nodes ends k
 
@@ -135,39 +139,51 @@ module _ (nodes : List Node) (ends : List End) (ls : List (List Entry)) (v : lis
       ∙ set-set ls k (rest_of (list_at ls k)) (e ∷ list_at (set ls k (rest_of (list_at ls k))) k)
       ∙ ap (λ (es : List Entry). set ls k (e ∷ es)) (get_or-set_same ls k (rest_of (list_at ls k)) [] in_ls)
 
-module _ (nodes : List Node) (ends : List End) (ls : List (List Entry)) (v : lists_of nodes ends ≡ ls) (from to : ℕ) (kept : AreChained nodes ends) (f : from < length ends)
-    (t : to < length ends) (apart : from ≢ to) (some : list_at ls from ≢ []) where
-  pub shifted_kept : AreChained (set nodes (end_at ends from).head (linked nodes (end_at ends to) to (node_at nodes (end_at ends from).head).entry))
-      (set (set ends from (unlinked nodes (end_at ends from))) to (longer (end_at ends from).head (end_at ends to)))
-  shifted_kept = shift_kept nodes ends from to kept f t apart (some_depth nodes ends ls v from some)
+-- a node goes from one list to another
+module _ (nodes : List Node) (ends : List End) (ls : List (List Entry)) (v : lists_of nodes ends ≡ ls)
+    (kept : AreChained nodes ends) (from to : ℕ) (f : from < length ls) (t : to < length ls) (some : list_at ls from ≢ []) where
+  from_in : from < length ends
+  from_in = in_ends nodes ends ls v from f
 
-  pub shifted_room : (end_at ends to).depth + 1 < 4294967296
-  shifted_room = shift_room nodes ends from to kept f t apart (some_depth nodes ends ls v from some)
+  to_in : to < length ends
+  to_in = in_ends nodes ends ls v to t
 
-  pub shifted_lists : IsShifted from to ls (lists_of (set nodes (end_at ends from).head (linked nodes (end_at ends to) to (node_at nodes (end_at ends from).head).entry))
-      (set (set ends from (unlinked nodes (end_at ends from))) to (longer (end_at ends from).head (end_at ends to))))
-  shifted_lists =
-      subst (λ (zs : List (List Entry)). IsShifted from to zs
-      (lists_of (set nodes (end_at ends from).head (linked nodes (end_at ends to) to (node_at nodes (end_at ends from).head).entry))
-      (set (set ends from (unlinked nodes (end_at ends from))) to (longer (end_at ends from).head (end_at ends to))))) v
-      (shift_lists nodes ends from to kept f t apart (some_depth nodes ends ls v from some))
+  deep : 0 < (end_at ends from).depth
+  deep = some_depth nodes ends ls v from some
 
--- an entry in a node that was free
-pub insert_told : (list : ℕ) (e : Entry) (old mid new : List (List Entry)) → 0 < list → list < length old → IsShifted 0 list old mid → list_at old 0 ≢ []
-    → new ≡ set mid list (e ∷ rest_of (list_at mid list)) → new ≡ set (set old 0 (rest_of (list_at old 0))) list (e ∷ list_at old list)
-insert_told list e old mid new u f is some n =
-    let long : length (set old 0 (rest_of (list_at old 0))) ≡ length old = length-set old 0 (rest_of (list_at old 0)) in
-    let there : list_at mid list ≡ front_before (list_at old 0) (list_at old list) =
-    ap (λ (ls : List (List Entry)). list_at ls list) is ∙ get_or-set_same (set old 0 (rest_of (list_at old 0))) list (front_before (list_at old 0) (list_at old list)) [] (omega (arith, f, long)) in
-    n ∙ ap (λ (ls : List (List Entry)). set ls list (e ∷ rest_of (list_at mid list))) is
-    ∙ set-set (set old 0 (rest_of (list_at old 0))) list (front_before (list_at old 0) (list_at old list)) (e ∷ rest_of (list_at mid list))
-    ∙ ap (λ (es : List Entry). set (set old 0 (rest_of (list_at old 0))) list (e ∷ es)) (ap (λ (es : List Entry). rest_of es) there ∙ rest_front (list_at old 0) (list_at old list) some)
-  where
-    rest_front : (es more : List Entry) → es ≢ [] → rest_of (front_before es more) ≡ more
-    rest_front [] more s = absurd (s refl)
-    rest_front (x ∷ es) more s = refl
+  pub shifted_at : (end_at ends from).head < length nodes
+  shifted_at = head_within nodes ends ls v from kept from_in deep
 
--- and where no node is free
+  pub shifted_head : 0 < (end_at (cut_of nodes ends from) to).depth → (end_at (cut_of nodes ends from) to).head < length nodes
+  shifted_head = shift_head nodes ends from to kept from_in to_in deep
+
+  pub shifted_room : (end_at (cut_of nodes ends from) to).depth + 1 < 4294967296
+  shifted_room = shift_room nodes ends from to kept from_in to_in deep
+
+  pub shifted_kept : (e : Entry) → AreChained (set nodes (end_at ends from).head (linked nodes (end_at (cut_of nodes ends from) to) to e))
+      (set (cut_of nodes ends from) to (longer (end_at ends from).head (end_at (cut_of nodes ends from) to)))
+  shifted_kept = shift_kept nodes ends from to kept from_in to_in deep
+
+  -- with another entry
+  pub reused_lists : (e : Entry) → from ≢ to
+      → lists_of (set nodes (end_at ends from).head (linked nodes (end_at (cut_of nodes ends from) to) to e))
+      (set (cut_of nodes ends from) to (longer (end_at ends from).head (end_at (cut_of nodes ends from) to)))
+      ≡ set (set ls from (rest_of (list_at ls from))) to (e ∷ list_at ls to)
+  reused_lists e apart =
+      shift_lists nodes ends from to kept from_in to_in deep e apart
+      ∙ ap (λ (zs : List (List Entry)). set (set zs from (rest_of (list_at zs from))) to (e ∷ list_at zs to)) v
+
+  -- and with its own
+  pub shifted_lists : (e : Entry) → from ≢ to → e ≡ (node_at nodes (end_at ends from).head).entry
+      → IsShifted from to ls (lists_of (set nodes (end_at ends from).head (linked nodes (end_at (cut_of nodes ends from) to) to e))
+      (set (cut_of nodes ends from) to (longer (end_at ends from).head (end_at (cut_of nodes ends from) to))))
+  shifted_lists e apart own =
+      let first : list_at ls from ≡ e ∷ rest_of (list_at ls from) =
+      front_told nodes ends ls v from deep ∙ ap (λ (x : Entry). x ∷ rest_of (list_at ls from)) (sym own) in
+      reused_lists e apart
+      ∙ ap (λ (es : List Entry). set (set ls from (rest_of (list_at ls from))) to (front_before es (list_at ls to))) (sym first)
+
+-- where no node is free
 pub insert_new : (list : ℕ) (e : Entry) (old : List (List Entry)) → list_at old 0 ≡ [] → set old list (e ∷ list_at old list) ≡ set (set old 0 (rest_of (list_at old 0))) list (e ∷ list_at old list)
 insert_new list e old none =
     ap (λ (ls : List (List Entry)). set ls list (e ∷ list_at old list)) (sym (ap (λ (es : List Entry). set old 0 es) (ap (λ (es : List Entry). rest_of es) none ∙ sym none) ∙ set-get_or old 0 []))

@@ -95,9 +95,9 @@ pub record AreChained (nodes : List Node) (ends : List End) : Type 0 where
   pub few : length nodes < 4294967296
   pub many : length ends ≤ 4096
 
--- whether a list has an entry was noted; list 0 isn't noted
-pub record IsNoted (list : ℕ) (end : End) (old new : List ℕ) : Type 0 where
-  pub noted : 0 < list → is_in new list ≡ ltb 0 end.depth
+-- whether a list has an entry was noted, by how many it has; list 0 isn't noted
+pub record IsNoted (list depth : ℕ) (old new : List ℕ) : Type 0 where
+  pub noted : 0 < list → is_in new list ≡ ltb 0 depth
   pub free : list ≡ 0 → is_in new 0 ≡ is_in old 0
   pub others : (k : ℕ) → k ≢ list → is_in new k ≡ is_in old k
 

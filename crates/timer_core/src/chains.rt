@@ -7,7 +7,8 @@ ghost use Rattle.timer_core.specs.Wheel.{inserted, IsFirstList};
 
 use crate::entry::Entry;
 use crate::links::{
-    End, Node, end_of, entry_at, least_from, mark, push_node, put_entry, shift_node,
+    End, Node, end_of, entry_at, least_from, link_node, mark_longer, mark_shorter, push_node,
+    put_entry, take_node,
 };
 use bit_set::BitSet;
 use rpc_base::NoMemory;
@@ -107,9 +108,10 @@ impl Chains {
         requires some { list_at self.old from ≢ [] }
         ensures { IsShifted from to self.old self.new }
     {
-        shift_node(&mut self.nodes, &mut self.ends, from, to);
-        mark(&mut self.used, &self.ends, from);
-        mark(&mut self.used, &self.ends, to);
+        let node = take_node(&self.nodes, &mut self.ends, from);
+        let depth = link_node(&mut self.nodes, &mut self.ends, to, node.at, node.entry);
+        mark_shorter(&mut self.used, from, node.depth);
+        mark_longer(&mut self.used, to, depth);
     }
 
     /// Puts an entry in front of a list, in a new node. Where memory runs out nothing changes.
@@ -118,8 +120,8 @@ impl Chains {
         ensures after { OnOk result (self.new ≡ set self.old list (entry ∷ list_at self.old list)) }
         ensures failed { OnErr result (self.new ≡ self.old) }
     {
-        push_node(&mut self.nodes, &mut self.ends, list, entry)?;
-        mark(&mut self.used, &self.ends, list);
+        let depth = push_node(&mut self.nodes, &mut self.ends, list, entry)?;
+        mark_longer(&mut self.used, list, depth);
         Ok(())
     }
 
@@ -144,9 +146,20 @@ impl Chains {
             self.push(list, entry)?;
             return Ok(());
         }
-        self.shift(0, list);
-        self.put(list, entry);
+        self.reuse(list, entry);
         Ok(())
+    }
+
+    /// Puts an entry in front of a list, in the first node of list 0.
+    fn reuse(&mut self, list: usize, entry: Entry)
+        requires used { 0 < list }
+        requires list_in { list < length self.old }
+        requires some { list_at self.old 0 ≢ [] }
+        ensures { self.new ≡ inserted list entry self.old }
+    {
+        let free = take_node(&self.nodes, &mut self.ends, 0);
+        let depth = link_node(&mut self.nodes, &mut self.ends, list, free.at, entry);
+        mark_longer(&mut self.used, list, depth);
     }
 
     /// The first list with an entry, list 0 left out.

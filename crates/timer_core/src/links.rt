@@ -1,7 +1,8 @@
 //! The nodes of lists in one vector, linked by numbers.
 
-ghost use Rattle.std.specs.Prelude.{◌≡◌, ◌≢◌, ◌+◌, ◌-◌, ◌<◌, ◌≤◌, ◌∷◌, [], ◌++◌, length, set, min, OnOk, OnErr};
+ghost use Rattle.std.specs.Prelude.{◌≡◌, ◌≢◌, ◌+◌, ◌-◌, ◌<◌, ◌≤◌, ◌∷◌, [], ◌++◌, length, set, min, OnOk, OnErr, IfOk, ltb};
 ghost use Rattle.timer_core.specs.Chains.{node_at, end_at, blank_node, least_at, unlinked, linked, IsNoted};
+ghost use Rattle.bit_set.specs.Bits.{is_in};
 
 use crate::entry::Entry;
 use bit_set::BitSet;
@@ -27,6 +28,16 @@ pub struct End {
     /// The number of the first node, where there is one.
     pub head: u32,
     /// How many nodes the list has.
+    pub depth: u32,
+}
+
+/// A node that was taken from the front of a list.
+#[derive(Clone, Copy)]
+pub struct Taken {
+    /// The number of the node.
+    pub at: u32,
+    pub entry: Entry,
+    /// How many nodes the list had, this one among them.
     pub depth: u32,
 }
 
@@ -88,40 +99,62 @@ fn behind(node: Node, end: End) -> End
     }
 }
 
-/// Takes the first node from one list and puts it in front of another.
-pub fn shift_node(nodes: &mut Vec<Node>, ends: &mut Vec<End>, from: usize, to: usize)
-    requires from_in { from < length ends.old.items }
-    requires to_in { to < length ends.old.items }
-    requires list { to < 4294967296 }
-    requires some { 0 < (end_at ends.old.items from).depth }
-    requires head { (end_at ends.old.items from).head < length nodes.old.items }
-    requires to_head { 0 < (end_at ends.old.items to).depth → (end_at ends.old.items to).head < length nodes.old.items }
-    requires room { (end_at ends.old.items to).depth + 1 < 4294967296 }
-    requires apart { from ≢ to }
-    ensures nodes { nodes.new.items ≡ set nodes.old.items (end_at ends.old.items from).head
-        (linked nodes.old.items (end_at ends.old.items to) to (node_at nodes.old.items (end_at ends.old.items from).head).entry) }
-    ensures ends { ends.new.items ≡ set (set ends.old.items from (unlinked nodes.old.items (end_at ends.old.items from))) to
-        (record { head = (end_at ends.old.items from).head; depth = (end_at ends.old.items to).depth + 1 }) }
+/// Takes the first node from a list. The node stays as it is.
+pub fn take_node(nodes: &Vec<Node>, ends: &mut Vec<End>, list: usize) -> Taken
+    requires list_in { list < length ends.old.items }
+    requires some { 0 < (end_at ends.old.items list).depth }
+    requires head { (end_at ends.old.items list).head < length nodes.now.items }
+    ensures ends { ends.new.items ≡ set ends.old.items list (unlinked nodes.now.items (end_at ends.old.items list)) }
+    ensures at { result.at ≡ (end_at ends.old.items list).head }
+    ensures entry { result.entry ≡ (node_at nodes.now.items (end_at ends.old.items list).head).entry }
+    ensures depth { result.depth ≡ (end_at ends.old.items list).depth }
 {
-    let end = ends[from];
-    let at = end.head as usize;
-    let node = nodes[at];
-    ends[from] = behind(node, end);
-    let other = ends[to];
-    nodes[at] = linked_node(nodes, other, to as u32, node.entry);
-    ends[to] = End {
-        head: end.head,
-        depth: other.depth + 1,
-    };
+    let place = &mut ends[list];
+    let end = *place;
+    let node = nodes[end.head as usize];
+    *place = behind(node, end);
+    Taken {
+        at: end.head,
+        entry: node.entry,
+        depth: end.depth,
+    }
 }
 
-/// Puts an entry in front of a list, in a new node. Where memory runs out, or there are 2^32 - 1 nodes, nothing changes.
+/// Puts a node that is in no list in front of one, with an entry. Answers how many nodes the list had before.
+pub fn link_node(
+    nodes: &mut Vec<Node>,
+    ends: &mut Vec<End>,
+    list: usize,
+    at: u32,
+    entry: Entry,
+) -> u32
+    requires list_in { list < length ends.old.items }
+    requires list { list < 4294967296 }
+    requires at { at < length nodes.old.items }
+    requires head { 0 < (end_at ends.old.items list).depth → (end_at ends.old.items list).head < length nodes.old.items }
+    requires room { (end_at ends.old.items list).depth + 1 < 4294967296 }
+    ensures nodes { nodes.new.items ≡ set nodes.old.items at (linked nodes.old.items (end_at ends.old.items list) list entry) }
+    ensures ends { ends.new.items ≡ set ends.old.items list (record { head = at; depth = (end_at ends.old.items list).depth + 1 }) }
+    ensures depth { result ≡ (end_at ends.old.items list).depth }
+{
+    let place = &mut ends[list];
+    let end = *place;
+    nodes[at as usize] = linked_node(nodes, end, list as u32, entry);
+    *place = End {
+        head: at,
+        depth: end.depth + 1,
+    };
+    end.depth
+}
+
+/// Puts an entry in front of a list, in a new node. Answers how many nodes the list had before. Where memory runs out,
+/// or there are 2^32 - 1 nodes, nothing changes.
 pub fn push_node(
     nodes: &mut Vec<Node>,
     ends: &mut Vec<End>,
     list: usize,
     entry: Entry,
-) -> Result<(), NoMemory>
+) -> Result<u32, NoMemory>
     requires list_in { list < length ends.old.items }
     requires list { list < 4294967296 }
     requires head { 0 < (end_at ends.old.items list).depth → (end_at ends.old.items list).head < length nodes.old.items }
@@ -129,6 +162,7 @@ pub fn push_node(
     ensures nodes { OnOk result (nodes.new.items ≡ nodes.old.items ++ linked nodes.old.items (end_at ends.old.items list) list entry ∷ []) }
     ensures ends { OnOk result (ends.new.items ≡ set ends.old.items list (record { head = length nodes.old.items; depth = (end_at ends.old.items list).depth + 1 })) }
     ensures few { OnOk result (length nodes.old.items + 1 < 4294967296) }
+    ensures depth { IfOk result (λ depth. depth ≡ (end_at ends.old.items list).depth) }
     ensures failed { OnErr result (nodes.new.items ≡ nodes.old.items) }
     ensures failed_ends { OnErr result (ends.new.items ≡ ends.old.items) }
 {
@@ -136,14 +170,15 @@ pub fn push_node(
     if count >= u32::MAX as usize {
         return Err(NoMemory);
     }
-    let end = ends[list];
+    let place = &mut ends[list];
+    let end = *place;
     let node = linked_node(nodes, end, list as u32, entry);
     nodes.push(node)?;
-    ends[list] = End {
+    *place = End {
         head: count as u32,
         depth: end.depth + 1,
     };
-    Ok(())
+    Ok(end.depth)
 }
 
 /// Puts another entry in the place of the first one of a list.
@@ -156,22 +191,32 @@ pub fn put_entry(nodes: &mut Vec<Node>, ends: &Vec<End>, list: usize, entry: Ent
     ensures { nodes.new.items ≡ set nodes.old.items (end_at ends.now.items list).head (linked nodes.old.items (unlinked nodes.old.items (end_at ends.now.items list)) list entry) }
 {
     let end = ends[list];
-    let node = nodes[end.head as usize];
-    nodes[end.head as usize] = linked_node(nodes, behind(node, end), list as u32, entry);
+    let at = end.head as usize;
+    let node = nodes[at];
+    nodes[at] = linked_node(nodes, behind(node, end), list as u32, entry);
 }
 
-/// Notes whether a list has an entry. List 0 isn't noted.
-pub fn mark(used: &mut BitSet, ends: &Vec<End>, list: usize)
-    requires list_in { list < length ends.now.items }
-    requires few { length ends.now.items ≤ 4096 }
-    ensures { IsNoted list (end_at ends.now.items list) used.old used.new }
+/// Notes a list that had this many entries and has one more now. That changes its note only where it was empty. List 0
+/// isn't noted.
+pub fn mark_longer(used: &mut BitSet, list: usize, depth: u32)
+    requires list_in { list < 4096 }
+    requires noted { 0 < list → is_in used.old list ≡ ltb 0 depth }
+    ensures { IsNoted list (depth + 1) used.old used.new }
 {
-    if list == 0 {
-        return;
+    if depth == 0 && list > 0 {
+        used.insert(list as u32);
     }
-    if end_of(ends, list).depth == 0 {
+}
+
+/// Notes a list that had this many entries and has one less now. That changes its note only where it is empty now. List
+/// 0 isn't noted.
+pub fn mark_shorter(used: &mut BitSet, list: usize, depth: u32)
+    requires list_in { list < 4096 }
+    requires some { 0 < depth }
+    requires noted { 0 < list → is_in used.old list ≡ ltb 0 depth }
+    ensures { IsNoted list (depth - 1) used.old used.new }
+{
+    if depth == 1 && list > 0 {
         used.remove(list as u32);
-        return;
     }
-    used.insert(list as u32);
 }
