@@ -1,6 +1,6 @@
 //! The nodes of lists in one vector, linked by numbers.
 
-ghost use Rattle.std.specs.Prelude.{◌≡◌, ◌≢◌, ◌+◌, ◌-◌, ◌<◌, ◌≤◌, ◌∷◌, [], ◌++◌, length, set, min, OnOk, OnErr, IfOk, ltb};
+ghost use Rattle.std.specs.Prelude.{◌≡◌, ◌+◌, ◌-◌, ◌<◌, ◌≤◌, ◌∷◌, [], ◌++◌, length, set, min, OnOk, OnErr, IfOk, ltb};
 ghost use Rattle.timer_core.specs.Chains.{node_at, end_at, blank_node, least_at, unlinked, linked, IsNoted};
 ghost use Rattle.bit_set.specs.Bits.{is_in};
 
