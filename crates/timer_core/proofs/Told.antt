@@ -1,23 +1,20 @@
 -- What the nodes tell of the lists that they stand for.
-use Rattle.std.proofs.Common.{◌≡◌, ℕ, zero, suc, ◌+◌, ◌-◌, ◌<◌, ◌≤◌, ◌≢◌, inl, inr, List, [], ◌∷◌, ◌++◌, length, set, arith, refl, sym, ap, ◌∙◌, subst, get_or-set_same, length-set}
+use Rattle.std.proofs.Common.{◌≡◌, ℕ, zero, suc, ◌+◌, ◌<◌, ◌≤◌, ◌≢◌, inl, inr, List, [], ◌∷◌, ◌++◌, length, set, arith, refl, sym, ap, ◌∙◌, length-set}
 use Rattle.std.proofs.lemmas.Bool.{cases_lt}
-use Rattle.std.proofs.lemmas.List.{get_or_push, length_push, length-map, set-set, set-get_or}
+use Rattle.std.proofs.lemmas.List.{get_or_push, length_push, length-map, set-get_or}
 use Rattle.std.proofs.lemmas.List.Sums.{sum_by-set, get_or-le-sum_by}
 use Rattle.timer_core.specs.declared.entry.Entry.{Entry}
 use Rattle.timer_core.specs.declared.links.Node.{Node}
 use Rattle.timer_core.specs.declared.links.End.{End}
 use Rattle.timer_core.specs.Chains.{blank_node, no_nodes, node_at, end_at, entries_from, entries_of, lists_of, list_at, least_of, rest_of, front_before, IsShifted, least_at, linked}
 use Rattle.timer_core.specs.Chains.{unlinked, IsChain, depth_of, AreChained}
-use Rattle.timer_core.proofs.Chained.{Agree, agree_set, agree_push, least_told, list_told}
-use Rattle.timer_core.proofs.Shifted.{longer, attached_lists, attached_chains, detached_lists, detached_chains}
+use Rattle.timer_core.proofs.Chained.{Agree, agree_push, least_told, list_told}
+use Rattle.timer_core.proofs.Shifted.{longer, attached_lists, attached_chains}
 use Rattle.timer_core.proofs.Shifted.{first_within, rest_told, cut_of, shift_room, shift_head, shift_kept, shift_lists}
 
 -- there are as many lists as ends
 pub counted : (nodes : List Node) (ends : List End) (ls : List (List Entry)) → lists_of nodes ends ≡ ls → length ends ≡ length ls
 counted nodes ends ls v = sym (length-map ends (λ e. entries_of nodes e)) ∙ ap (λ (zs : List (List Entry)). length zs) v
-
-longer_unlinked : (nodes : List Node) (e : End) → 0 < e.depth → longer e.head (unlinked nodes e) ≡ e
-longer_unlinked nodes e h = let d : e.depth - 1 + 1 ≡ e.depth = omega arith in let put : ℕ → End = λ n. record { head = e.head; depth = n } in ap put d
 
 module _ (nodes : List Node) (ends : List End) (ls : List (List Entry)) (v : lists_of nodes ends ≡ ls) (k : ℕ) where
   pub in_ends : k < length ls → k < length ends
@@ -81,63 +78,6 @@ module _ (nodes : List Node) (ends : List End) (ls : List (List Entry)) (v : lis
       attached_lists nodes (nodes ++ n ∷ []) ends k (length nodes) e (end_at ends k) refl (omega (arith, long)) (omega (arith, long)) f (get_or_push nodes n blank_node (length nodes) refl)
       (pushed_pairs kept n)
       ∙ ap (λ (zs : List (List Entry)). set zs k (e ∷ list_at zs k)) v
-
-module _ (nodes : List Node) (ends : List End) (ls : List (List Entry)) (v : lists_of nodes ends ≡ ls) (k : ℕ) (kept : AreChained nodes ends) (f : k < length ends)
-    (some : 0 < (end_at ends k).depth) (e : Entry) where
-  same_ends : set (set ends k (unlinked nodes (end_at ends k))) k (longer (end_at ends k).head (unlinked nodes (end_at ends k))) ≡ ends
-  same_ends =
-      set-set ends k (unlinked nodes (end_at ends k)) (longer (end_at ends k).head (unlinked nodes (end_at ends k))) ∙ ap (λ z. set ends k z) (longer_unlinked nodes (end_at ends k) some)
-      ∙ set-get_or ends k no_nodes
-
-  pub next_within : 0 < (end_at ends k).depth - 1 → (node_at nodes (end_at ends k).head).next < length nodes
-  next_within h =
-      let there : IsChain nodes k (unlinked nodes (end_at ends k)).depth (unlinked nodes (end_at ends k)).head =
-      subst (λ (z : End). IsChain nodes k z.depth z.head) (get_or-set_same ends k (unlinked nodes (end_at ends k)) no_nodes f)
-      (detached_chains nodes ends k f some kept.lists k
-      (let long : length (set ends k (unlinked nodes (end_at ends k))) ≡ length ends = length-set ends k (unlinked nodes (end_at ends k)) in omega (arith, f, long))).0 in
-      first_within nodes k (unlinked nodes (end_at ends k)) h there
-
-  put_pairs : (n : Node) (j : ℕ) → j < length (set ends k (unlinked nodes (end_at ends k)))
-      → IsChain nodes j (end_at (set ends k (unlinked nodes (end_at ends k))) j).depth (end_at (set ends k (unlinked nodes (end_at ends k))) j).head × Agree nodes
-      (set nodes (end_at ends k).head n) (end_at (set ends k (unlinked nodes (end_at ends k))) j).depth (end_at (set ends k (unlinked nodes (end_at ends k))) j).head
-  put_pairs n j h =
-      let both = detached_chains nodes ends k f some kept.lists j h in
-      (both.0, agree_set nodes (end_at ends k).head n (end_at (set ends k (unlinked nodes (end_at ends k))) j).depth (end_at (set ends k (unlinked nodes (end_at ends k))) j).head both.1)
-
-  x_in : (end_at ends k).head < length nodes
-  x_in = first_within nodes k (end_at ends k) some (kept.lists k f)
-
-  cut_in : k < length (set ends k (unlinked nodes (end_at ends k)))
-  cut_in = let long : length (set ends k (unlinked nodes (end_at ends k))) ≡ length ends = length-set ends k (unlinked nodes (end_at ends k)) in omega (arith, f, long)
-
-  pub put_kept : AreChained (set nodes (end_at ends k).head (linked nodes (unlinked nodes (end_at ends k)) k e)) ends
-  put_kept =
-      let n : Node = linked nodes (unlinked nodes (end_at ends k)) k e in
-      let long : length (set nodes (end_at ends k).head n) ≡ length nodes = length-set nodes (end_at ends k).head n in
-      record {
-        lists = subst (λ (zs : List End). (j : ℕ) → j < length zs → IsChain (set nodes (end_at ends k).head n) j (end_at zs j).depth (end_at zs j).head) same_ends
-            (attached_chains nodes (set nodes (end_at ends k).head n) (set ends k (unlinked nodes (end_at ends k))) k (end_at ends k).head e (unlinked nodes (end_at ends k))
-            (get_or-set_same ends k (unlinked nodes (end_at ends k)) no_nodes f) (omega (arith, long)) (omega (arith, x_in, long)) cut_in
-            (get_or-set_same nodes (end_at ends k).head n blank_node x_in) (put_pairs n));
-        whole = kept.whole ∙ sym long;
-        few = omega (arith, long, kept.few);
-        many = kept.many;
-      }
-
-  pub put_lists : lists_of (set nodes (end_at ends k).head (linked nodes (unlinked nodes (end_at ends k)) k e)) ends ≡ set ls k (e ∷ rest_of (list_at ls k))
-  put_lists =
-      let n : Node = linked nodes (unlinked nodes (end_at ends k)) k e in
-      let long : length (set nodes (end_at ends k).head n) ≡ length nodes = length-set nodes (end_at ends k).head n in
-      let cut : lists_of nodes (set ends k (unlinked nodes (end_at ends k))) ≡ set ls k (rest_of (list_at ls k)) =
-      detached_lists nodes ends k f some kept.lists ∙ ap (λ (zs : List (List Entry)). set zs k (rest_of (list_at zs k))) v in
-      let in_ls : k < length ls = omega (arith, counted nodes ends ls v, f) in
-      ap (λ (zs : List End). lists_of (set nodes (end_at ends k).head n) zs) (sym same_ends)
-      ∙ attached_lists nodes (set nodes (end_at ends k).head n) (set ends k (unlinked nodes (end_at ends k))) k (end_at ends k).head e (unlinked nodes (end_at ends k))
-      (get_or-set_same ends k (unlinked nodes (end_at ends k)) no_nodes f) (omega (arith, long)) (omega (arith, x_in, long)) cut_in
-      (get_or-set_same nodes (end_at ends k).head n blank_node x_in) (put_pairs n)
-      ∙ ap (λ (zs : List (List Entry)). set zs k (e ∷ list_at zs k)) cut
-      ∙ set-set ls k (rest_of (list_at ls k)) (e ∷ list_at (set ls k (rest_of (list_at ls k))) k)
-      ∙ ap (λ (es : List Entry). set ls k (e ∷ es)) (get_or-set_same ls k (rest_of (list_at ls k)) [] in_ls)
 
 -- a node goes from one list to another
 module _ (nodes : List Node) (ends : List End) (ls : List (List Entry)) (v : lists_of nodes ends ≡ ls)

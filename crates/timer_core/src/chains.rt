@@ -8,7 +8,7 @@ ghost use Rattle.timer_core.specs.Wheel.{inserted, IsFirstList};
 use crate::entry::Entry;
 use crate::links::{
     End, Node, end_of, entry_at, least_from, link_node, mark_longer, mark_shorter, push_node,
-    put_entry, take_node,
+    take_node,
 };
 use bit_set::BitSet;
 use rpc_base::NoMemory;
@@ -123,15 +123,6 @@ impl Chains {
         let depth = push_node(&mut self.nodes, &mut self.ends, list, entry)?;
         mark_longer(&mut self.used, list, depth);
         Ok(())
-    }
-
-    /// Puts another entry in the place of the first one of a list.
-    pub fn put(&mut self, list: usize, entry: Entry)
-        requires list_in { list < length self.old }
-        requires some { list_at self.old list ≢ [] }
-        ensures { self.new ≡ set self.old list (entry ∷ rest_of (list_at self.old list)) }
-    {
-        put_entry(&mut self.nodes, &self.ends, list, entry);
     }
 
     /// Puts an entry in front of a list, in a node of list 0 where it has one, else in a new one. Where memory runs out

@@ -181,21 +181,6 @@ pub fn push_node(
     Ok(end.depth)
 }
 
-/// Puts another entry in the place of the first one of a list.
-pub fn put_entry(nodes: &mut Vec<Node>, ends: &Vec<End>, list: usize, entry: Entry)
-    requires list_in { list < length ends.now.items }
-    requires list { list < 4294967296 }
-    requires some { 0 < (end_at ends.now.items list).depth }
-    requires head { (end_at ends.now.items list).head < length nodes.old.items }
-    requires next { 0 < (end_at ends.now.items list).depth - 1 → (node_at nodes.old.items (end_at ends.now.items list).head).next < length nodes.old.items }
-    ensures { nodes.new.items ≡ set nodes.old.items (end_at ends.now.items list).head (linked nodes.old.items (unlinked nodes.old.items (end_at ends.now.items list)) list entry) }
-{
-    let end = ends[list];
-    let at = end.head as usize;
-    let node = nodes[at];
-    nodes[at] = linked_node(nodes, behind(node, end), list as u32, entry);
-}
-
 /// Notes a list that had this many entries and has one more now. That changes its note only where it was empty. List 0
 /// isn't noted.
 pub fn mark_longer(used: &mut BitSet, list: usize, depth: u32)
