@@ -1,93 +1,69 @@
 -- The leaf of a number, by the table of a plan.
-use Rattle.std.proofs.Common.{◌≡◌, ℕ, zero, suc, ◌+◌, ◌<◌, ◌≤◌, true, false, ◌==◌, ◌⊎◌, inl, inr, List, [], ◌∷◌, ◌++◌, length, get_or, slice_get, Option, None, Some, arith, refl, ap, sym, ◌∙◌}
-use Rattle.std.proofs.Common.{length-append}
+use Rattle.std.proofs.Common.{◌≡◌, ℕ, zero, suc, ◌+◌, ◌-◌, ◌<◌, ◌≤◌, true, false, ◌==◌, ◌⊎◌, inl, inr, Option, None, Some, arith, refl, ap, sym, ◌∙◌}
 use Rattle.std.specs.Prelude.{if◌then◌else◌}
 use Rattle.std.proofs.lemmas.Bool.Decides.{nat_tests}
 use Rattle.rpc_model.specs.declared.chan.LeafChan.{LeafChan}
 use Rattle.rpc_model.specs.Plan.{Plan, leaf_plan, par_plan, sel_plan, Plans, last_plan, plan_then}
-use Rattle.rpc_model.specs.Versions.{nodes, or_leaf, leaf_at, leaf_at_of}
-use Rattle.chan_tree.specs.Table.{leaf_nodes, leaf_nodes_of, leaf_chans, leaf_chans_of, leaf_by, IsRising}
-use Rattle.chan_tree.proofs.Tables.{before_or_not}
+use Rattle.rpc_model.specs.Versions.{nodes, nodes_of, possible_attempts, or_leaf, leaf_at, leaf_at_of}
+use Rattle.chan_tree.specs.Table.{entries, entries_below, entry_or_none, entry_at, chan_in}
+use Rattle.chan_tree.proofs.Tables.{get-left, get-right, count-entries, before_or_not}
 
 pub or-none : (l : Option LeafChan) → l ≡ or_leaf l None
 or-none None = refl
 or-none (Some leaf) = refl
 
-or-or : (a b c : Option LeafChan) → or_leaf (or_leaf a b) c ≡ or_leaf a (or_leaf b c)
-or-or None b c = refl
-or-or (Some leaf) b c = refl
-
-by-append : (ns ms : List ℕ) (cs ds : List LeafChan) (wanted : ℕ) → length ns ≡ length cs → leaf_by (ns ++ ms) (cs ++ ds) wanted ≡ or_leaf (leaf_by ns cs wanted) (leaf_by ms ds wanted)
-by-append [] ms [] ds wanted same = refl
-by-append [] ms (c ∷ cs) ds wanted same = absurd (omega (arith, same))
-by-append (n ∷ ns) ms [] ds wanted same = absurd (omega (arith, same))
-by-append (n ∷ ns) ms (c ∷ cs) ds wanted same =
-    ap (or_leaf (if n == wanted then Some c else None)) (by-append ns ms cs ds wanted (omega (arith, same)))
-    ∙ sym (or-or (if n == wanted then Some c else None) (leaf_by ns cs wanted) (leaf_by ms ds wanted))
+differ : (a b : ℕ) → (a ≡ b → ⊥) → (a == b) ≡ false
+differ a b no_match = grind (arith, nat_tests)
 
 module _ {M G : Type 0} where
   mutual
-    pub same-chans : (node : ℕ) (plan : Plan M G) → length (leaf_nodes node plan) ≡ length (leaf_chans plan)
-    same-chans node (leaf_plan leaf) = refl
-    same-chans node (par_plan rule plans) = same-all (node + 1) plans
-    same-chans node (sel_plan timeout plans) = same-all (node + 1) plans
+    leaf-outside : (node : ℕ) (plan : Plan M G) (wanted : ℕ) → (node ≤ wanted → wanted < node + nodes plan → ⊥) → leaf_at node plan wanted ≡ None
+    leaf-outside node (leaf_plan leaf) wanted out = ap (λ b. if b then Some leaf else None) (differ node wanted (λ e. out (omega (arith, e)) (omega (arith, e))))
+    leaf-outside node (par_plan rule plans) wanted out = all-outside (node + 1) plans wanted (λ a b. out (omega (arith, a)) (omega (arith, b)))
+    leaf-outside node (sel_plan timeout plans) wanted out = all-outside (node + 1) plans wanted (λ a b. out (omega (arith, a)) (omega (arith, b)))
 
-    same-all : (node : ℕ) (plans : Plans M G) → length (leaf_nodes_of node plans) ≡ length (leaf_chans_of plans)
-    same-all node last_plan = refl
-    same-all node (plan_then plan plans) =
-        let a = same-chans node plan in
-        let b = same-all (node + nodes plan) plans in
-        let l = length-append (leaf_nodes node plan) (leaf_nodes_of (node + nodes plan) plans) in
-        let m = length-append (leaf_chans plan) (leaf_chans_of plans) in
-        omega (arith, a, b, l, m)
+    all-outside : (node : ℕ) (plans : Plans M G) (wanted : ℕ) → (node ≤ wanted → wanted < node + nodes_of plans → ⊥) → leaf_at_of node plans wanted ≡ None
+    all-outside node last_plan wanted out = refl
+    all-outside node (plan_then plan plans) wanted out =
+        ap (λ l. or_leaf l (leaf_at_of (node + nodes plan) plans wanted)) (leaf-outside node plan wanted (λ a b. out a (omega (arith, b))))
+        ∙ all-outside (node + nodes plan) plans wanted (λ a b. out (omega (arith, a)) (omega (arith, b)))
+
+  -- It is a leaf of the first plan, or of those behind it.
+  leaf-joined : (first node : ℕ) (plan : Plan M G) (plans : Plans M G) (k : ℕ) → leaf_at node plan (node + k) ≡ chan_in (entry_at (entries first plan) k)
+      → ((j : ℕ) → leaf_at_of (node + nodes plan) plans (node + nodes plan + j) ≡ chan_in (entry_at (entries_below (first + possible_attempts plan) plans) j))
+      → leaf_at_of node (plan_then plan plans) (node + k) ≡ chan_in (entry_at (entries_below first (plan_then plan plans)) k)
+  leaf-joined first node plan plans k here below = by (before_or_not k (nodes plan))
+    where
+      by : (k < nodes plan) ⊎ (nodes plan ≤ k) → leaf_at_of node (plan_then plan plans) (node + k) ≡ chan_in (entry_at (entries_below first (plan_then plan plans)) k)
+      by (inl less) =
+          let long = count-entries first plan in
+          ap (or_leaf (leaf_at node plan (node + k))) (all-outside (node + nodes plan) plans (node + k) (λ a b. absurd (omega (arith, a, less))))
+          ∙ sym (or-none (leaf_at node plan (node + k))) ∙ here
+          ∙ ap (λ e. chan_in (entry_or_none e)) (sym (get-left (entries first plan) (entries_below (first + possible_attempts plan) plans) k (omega (arith, less, long))))
+      by (inr le) =
+          let long = count-entries first plan in
+          let same : node + k ≡ node + nodes plan + (k - nodes plan) = omega (arith, le) in
+          ap (λ l. or_leaf l (leaf_at_of (node + nodes plan) plans (node + k))) (leaf-outside node plan (node + k) (λ a b. absurd (omega (arith, b, le))))
+          ∙ ap (leaf_at_of (node + nodes plan) plans) same ∙ below (k - nodes plan)
+          ∙ ap (λ e. chan_in (entry_or_none e)) (sym (get-right (entries first plan) (entries_below (first + possible_attempts plan) plans) k (k - nodes plan) (omega (arith, le, long))))
+
+  leaf-later : (first node : ℕ) (plans : Plans M G) (k : ℕ) → leaf_at_of (node + 1) plans (node + 1 + k) ≡ chan_in (entry_at (entries_below first plans) k)
+      → leaf_at_of (node + 1) plans (node + suc k) ≡ chan_in (entry_at (entries_below first plans) k)
+  leaf-later first node plans k below = ap (leaf_at_of (node + 1) plans) (let same : node + suc k ≡ node + 1 + k = omega arith in same) ∙ below
 
   mutual
-    leaf-is : (node : ℕ) (plan : Plan M G) (wanted : ℕ) → leaf_at node plan wanted ≡ leaf_by (leaf_nodes node plan) (leaf_chans plan) wanted
-    leaf-is node (leaf_plan leaf) wanted = or-none (if node == wanted then Some leaf else None)
-    leaf-is node (par_plan rule plans) wanted = all-is (node + 1) plans wanted
-    leaf-is node (sel_plan timeout plans) wanted = all-is (node + 1) plans wanted
+    leaf-is : (first node : ℕ) (plan : Plan M G) (k : ℕ) → leaf_at node plan (node + k) ≡ chan_in (entry_at (entries first plan) k)
+    leaf-is first node (leaf_plan leaf) zero = let here : (node == node + 0) ≡ true = grind (arith, nat_tests) in ap (λ b. if b then Some leaf else None) here
+    leaf-is first node (leaf_plan leaf) (suc k) = let other : (node == node + suc k) ≡ false = grind (arith, nat_tests) in ap (λ b. if b then Some leaf else None) other
+    leaf-is first node (par_plan rule plans) zero = all-outside (node + 1) plans (node + 0) (λ a b. absurd (omega (arith, a)))
+    leaf-is first node (par_plan rule plans) (suc k) = leaf-later first node plans k (all-is first (node + 1) plans k)
+    leaf-is first node (sel_plan timeout plans) zero = all-outside (node + 1) plans (node + 0) (λ a b. absurd (omega (arith, a)))
+    leaf-is first node (sel_plan timeout plans) (suc k) = leaf-later first node plans k (all-is first (node + 1) plans k)
 
-    all-is : (node : ℕ) (plans : Plans M G) (wanted : ℕ) → leaf_at_of node plans wanted ≡ leaf_by (leaf_nodes_of node plans) (leaf_chans_of plans) wanted
-    all-is node last_plan wanted = refl
-    all-is node (plan_then plan plans) wanted =
-        ap (λ l. or_leaf l (leaf_at_of (node + nodes plan) plans wanted)) (leaf-is node plan wanted)
-        ∙ ap (or_leaf (leaf_by (leaf_nodes node plan) (leaf_chans plan) wanted)) (all-is (node + nodes plan) plans wanted)
-        ∙ sym (by-append (leaf_nodes node plan) (leaf_nodes_of (node + nodes plan) plans) (leaf_chans plan) (leaf_chans_of plans) wanted (same-chans node plan))
+    all-is : (first node : ℕ) (plans : Plans M G) (k : ℕ) → leaf_at_of node plans (node + k) ≡ chan_in (entry_at (entries_below first plans) k)
+    all-is first node last_plan k = refl
+    all-is first node (plan_then plan plans) k =
+        leaf-joined first node plan plans k (leaf-is first node plan k) (λ j. all-is (first + possible_attempts plan) (node + nodes plan) plans j)
 
-  pub leaf_is : (plan : Plan M G) (wanted : ℕ) → leaf_at 0 plan wanted ≡ leaf_by (leaf_nodes 0 plan) (leaf_chans plan) wanted
-  leaf_is plan wanted = leaf-is 0 plan wanted
-
-  pub same_chans : (plan : Plan M G) → length (leaf_nodes 0 plan) ≡ length (leaf_chans plan)
-  same_chans plan = same-chans 0 plan
-
--- ---- what is found in the lists
-
-not-here : (n wanted : ℕ) (c : LeafChan) (rest : Option LeafChan) → (n ≡ wanted → ⊥) → or_leaf (if n == wanted then Some c else None) rest ≡ rest
-not-here n wanted c rest other = let e : (n == wanted) ≡ false = grind (arith, nat_tests) in ap (λ b. or_leaf (if b then Some c else None) rest) e
-
-is-here : (n wanted : ℕ) (c : LeafChan) (rest : Option LeafChan) → n ≡ wanted → or_leaf (if n == wanted then Some c else None) rest ≡ Some c
-is-here n wanted c rest same = let e : (n == wanted) ≡ true = grind (arith, nat_tests) in ap (λ b. or_leaf (if b then Some c else None) rest) e
-
--- Numbers that rise are the same only at the same place.
-pub found-leaf : (leaves : List ℕ) (chans : List LeafChan) (wanted at : ℕ) → IsRising leaves → length leaves ≡ length chans → at < length leaves → get_or leaves at 0 ≡ wanted
-    → leaf_by leaves chans wanted ≡ slice_get chans at
-found-leaf [] chans wanted at rise same less is = absurd (omega (arith, less))
-found-leaf (n ∷ ns) [] wanted at rise same less is = absurd (omega (arith, same))
-found-leaf (n ∷ ns) (c ∷ cs) wanted zero rise same less is = is-here n wanted c (leaf_by ns cs wanted) is
-found-leaf (n ∷ ns) (c ∷ cs) wanted (suc at) rise same less is =
-    not-here n wanted c (leaf_by ns cs wanted) (λ e. let r = rise 0 (suc at) (omega arith) less in omega (arith, r, e, is))
-    ∙ found-leaf ns cs wanted at (λ i j before most. rise (suc i) (suc j) (omega (arith, before)) (omega (arith, most))) (omega (arith, same)) (omega (arith, less)) is
-
-pub absent-leaf : (leaves : List ℕ) (chans : List LeafChan) (wanted : ℕ) → ((k : ℕ) → k < length leaves → get_or leaves k 0 ≡ wanted → ⊥) → leaf_by leaves chans wanted ≡ None
-absent-leaf [] chans wanted none = refl
-absent-leaf (n ∷ ns) [] wanted none = refl
-absent-leaf (n ∷ ns) (c ∷ cs) wanted none =
-    not-here n wanted c (leaf_by ns cs wanted) (λ e. none 0 (omega arith) e) ∙ absent-leaf ns cs wanted (λ k less e. none (suc k) (omega (arith, less)) e)
-
-pub absent-between : (leaves : List ℕ) (chans : List LeafChan) (wanted i : ℕ) → ((k : ℕ) → k < i → get_or leaves k 0 < wanted) → ((k : ℕ) → i ≤ k → k < length leaves → wanted < get_or leaves k 0)
-    → leaf_by leaves chans wanted ≡ None
-absent-between leaves chans wanted i below above = absent-leaf leaves chans wanted (λ k short here. by k short here (before_or_not k i))
-  where
-    by : (k : ℕ) → k < length leaves → get_or leaves k 0 ≡ wanted → (k < i) ⊎ (i ≤ k) → ⊥
-    by k short here (inl less) = let b = below k less in omega (arith, b, here)
-    by k short here (inr le) = let a = above k le short in omega (arith, a, here)
+  pub leaf_is : (p : Plan M G) (wanted : ℕ) → leaf_at 0 p wanted ≡ chan_in (entry_at (entries 0 p) wanted)
+  leaf_is p wanted = ap (leaf_at 0 p) (let same : wanted ≡ 0 + wanted = omega arith in same) ∙ leaf-is 0 0 p wanted

@@ -1,14 +1,13 @@
 -- The versions of a range by the counts and the table of a plan.
-use Rattle.std.proofs.Common.{◌≡◌, ℕ, zero, suc, ◌+◌, ◌-◌, ◌<◌, ◌≤◌, List, ◌++◌, position, slice_get, Option, Some, None, arith, refl, ap, sym, ◌∙◌, subst}
-use Rattle.std.specs.List.{IsDistinct}
+use Rattle.std.proofs.Common.{◌≡◌, ℕ, zero, suc, ◌+◌, ◌-◌, ◌<◌, ◌≤◌, List, ◌++◌, position, slice_get, Some, arith, ap, sym, ◌∙◌, subst}
 use Rattle.std.specs.Option.{option_map}
 use Rattle.rpc_model.specs.declared.meaning.Meaning.{Meaning}
 use Rattle.rpc_model.specs.declared.meaning.Meaning.TheVariants.{Node, Attempt}
 use Rattle.rpc_model.specs.Plan.{Plan}
-use Rattle.rpc_model.specs.Versions.{nodes, node_versions, attempt_versions, is_same, versions, width, offset_of, meaning_of}
-use Rattle.rpc_model.proofs.Versions.{position-cons, offset-meaning, attempts-distinct, width-is}
-use Rattle.chan_tree.specs.Table.{attempts_by, leaf_nodes, leaf_counts, total, IsRising}
-use Rattle.chan_tree.proofs.Tables.{total-counts, attempts-are, leaves-rise, rises}
+use Rattle.rpc_model.specs.Versions.{nodes, possible_attempts, node_versions, attempt_versions, is_same, versions, width, offset_of, meaning_of}
+use Rattle.rpc_model.proofs.Versions.{position-cons, offset-meaning, width-is}
+use Rattle.chan_tree.specs.Table.{entries, entry_at, place_in}
+use Rattle.chan_tree.proofs.Tables.{one-past, none-past, attempt_place}
 
 get-node : (first count : ℕ) (ys : List Meaning) (k : ℕ) → k < count → slice_get (node_versions first count ++ ys) k ≡ Some (Node (first + k))
 get-node first zero ys k less = absurd (omega (arith, less))
@@ -19,14 +18,6 @@ get-past : (first count : ℕ) (ys : List Meaning) (o : ℕ) → slice_get (node
 get-past first zero ys o = ap (slice_get ys) (let same : 0 + o ≡ o = omega arith in same)
 get-past first (suc count) ys o =
     subst (λ i. slice_get (node_versions first (suc count) ++ ys) i ≡ slice_get ys o) (let same : suc (count + o) ≡ suc count + o = omega arith in same) (get-past (first + 1) count ys o)
-
-one-past : (count : ℕ) (o : Option ℕ) → option_map suc (option_map (λ i. count + i) o) ≡ option_map (λ i. suc count + i) o
-one-past count None = refl
-one-past count (Some i) = ap Some (let same : suc (count + i) ≡ suc count + i = omega arith in same)
-
-none-past : (o : Option ℕ) → o ≡ option_map (λ i. 0 + i) o
-none-past None = refl
-none-past (Some i) = ap Some (let same : i ≡ 0 + i = omega arith in same)
 
 position-past : (node attempt first count : ℕ) (ys : List Meaning)
     → position (is_same (Attempt node attempt)) (node_versions first count ++ ys) ≡ option_map (λ i. count + i) (position (is_same (Attempt node attempt)) ys)
@@ -51,16 +42,9 @@ module _ {M G : Type 0} where
       (get-past 0 (nodes p) (attempt_versions 0 p) (o - nodes p))
 
   pub attempt_offset : (p : Plan M G) (node attempt : ℕ)
-      → offset_of p (Attempt node attempt) ≡ option_map (λ i. nodes p + i) (position (is_same (Attempt node attempt)) (attempts_by (leaf_nodes 0 p) (leaf_counts p)))
+      → offset_of p (Attempt node attempt) ≡ option_map (λ i. nodes p + i) (place_in (entry_at (entries 0 p) node) attempt)
   unfolding offset_of versions
-  attempt_offset p node attempt =
-      position-past node attempt 0 (nodes p) (attempt_versions 0 p) ∙ ap (λ xs. option_map (λ i. nodes p + i) (position (is_same (Attempt node attempt)) xs)) (attempts-are 0 p)
+  attempt_offset p node attempt = position-past node attempt 0 (nodes p) (attempt_versions 0 p) ∙ ap (option_map (λ i. nodes p + i)) (attempt_place p node attempt)
 
-  pub leaves_rise : (p : Plan M G) → IsRising (leaf_nodes 0 p)
-  leaves_rise p = rises 0 (0 + nodes p) (leaf_nodes 0 p) (leaves-rise 0 p)
-
-  pub attempts_differ : (p : Plan M G) → IsDistinct is_same (attempts_by (leaf_nodes 0 p) (leaf_counts p))
-  attempts_differ p = subst (IsDistinct is_same) (attempts-are 0 p) (attempts-distinct 0 p)
-
-  pub few_attempts : (p : Plan M G) → nodes p + total (leaf_counts p) ≡ width p
-  few_attempts p = let a = total-counts p in let w = width-is p in omega (arith, a, w)
+  pub few_attempts : (p : Plan M G) → nodes p + possible_attempts p ≡ width p
+  few_attempts p = sym (width-is p)

@@ -1,42 +1,19 @@
--- The table of a plan's leaves gives the versions of its range.
-use Rattle.std.proofs.Common.{◌≡◌, ℕ, zero, suc, ◌+◌, ◌-◌, ◌<◌, ◌≤◌, ◌⊎◌, inl, inr, Bool, true, false, ◌==◌, ◌&&◌, nat_lt, List, [], ◌∷◌, ◌++◌, length, get_or, position, slice_get, Some}
-use Rattle.std.proofs.Common.{None, arith, refl, ap, sym, ◌∙◌, subst, length-append}
+-- The place of an attempt among all attempts of a plan, by the leaf of its number.
+use Rattle.std.proofs.Common.{◌≡◌, ℕ, zero, suc, ◌+◌, ◌-◌, ◌<◌, ◌≤◌, ◌⊎◌, inl, inr, Bool, true, false, cond, ◌==◌, ◌&&◌, nat_lt, List, [], ◌∷◌, ◌++◌, length, position, slice_get, Option, Some}
+use Rattle.std.proofs.Common.{None, arith, refl, ap, sym, ◌∙◌, length-append}
+use Rattle.std.specs.Prelude.{if◌then◌else◌}
+use Rattle.std.specs.Option.{option_map}
 use Rattle.std.proofs.lemmas.Bool.Decides.{nat_tests}
-use Rattle.std.specs.List.{IsDistinct}
-use Rattle.std.proofs.lemmas.List.{append_assoc, append-nil}
 use Rattle.rpc_model.specs.declared.meaning.Meaning.{Meaning}
-use Rattle.rpc_model.specs.declared.meaning.Meaning.TheVariants.{Attempt}
+use Rattle.rpc_model.specs.declared.meaning.Meaning.TheVariants.{Node, Attempt}
 use Rattle.rpc_model.specs.Plan.{Plan, leaf_plan, par_plan, sel_plan, Plans, last_plan, plan_then}
 use Rattle.rpc_model.specs.Versions.{nodes, nodes_of, possible_attempts, possible_attempts_of, leaf_versions, attempt_versions, attempt_versions_of, is_same}
 use Rattle.rpc_model.proofs.First.{position_some}
-use Rattle.rpc_model.proofs.Versions.{length-leaf as count-versions, Apart, apart-append, leaf-apart-past, position-of, position-none}
-use Rattle.chan_tree.specs.Table.{firsts_from, attempts_by, leaf_nodes, leaf_nodes_of, leaf_counts, leaf_counts_of, total, IsRising}
+use Rattle.rpc_model.proofs.Versions.{length-leaf as count-versions, Apart, Within, apart-above, attempts-within, all-within, position-cons, position-none}
+use Rattle.chan_tree.specs.declared.table.PlanLeaf.{PlanLeaf}
+use Rattle.chan_tree.specs.Table.{Entry, entry_of, entries_of, entries, entries_below, entry_or_none, entry_at, place_in}
 
-total-append : (xs ys : List ℕ) → total (xs ++ ys) ≡ total xs + total ys
-total-append [] ys = omega arith
-total-append (x ∷ xs) ys = let h = total-append xs ys in omega (arith, h)
-
-pub firsts-append : (first : ℕ) (xs ys : List ℕ) (end : ℕ) → end ≡ first + total xs → firsts_from first (xs ++ ys) ≡ firsts_from first xs ++ firsts_from end ys
-firsts-append first [] ys end e = ap (λ n. firsts_from n ys) (let same : first ≡ end = omega (arith, e) in same)
-firsts-append first (x ∷ xs) ys end e = ap (λ fs. first ∷ fs) (firsts-append (first + x) xs ys end (omega (arith, e)))
-
-module _ {M G : Type 0} where
-  mutual
-    pub total-counts : (plan : Plan M G) → total (leaf_counts plan) ≡ possible_attempts plan
-    total-counts (leaf_plan leaf) = omega arith
-    total-counts (par_plan rule plans) = total-all plans
-    total-counts (sel_plan timeout plans) = total-all plans
-
-    pub total-all : (plans : Plans M G) → total (leaf_counts_of plans) ≡ possible_attempts_of plans
-    total-all last_plan = refl
-    total-all (plan_then plan plans) = let a = total-counts plan in let b = total-all plans in let l = total-append (leaf_counts plan) (leaf_counts_of plans) in omega (arith, a, b, l)
-
-  -- one tree and then others
-  pub firsts-then : (first : ℕ) (plan : Plan M G) (plans : Plans M G)
-      → firsts_from first (leaf_counts plan ++ leaf_counts_of plans) ≡ firsts_from first (leaf_counts plan) ++ firsts_from (first + possible_attempts plan) (leaf_counts_of plans)
-  firsts-then first plan plans = firsts-append first (leaf_counts plan) (leaf_counts_of plans) (first + possible_attempts plan) (let h = total-counts plan in omega (arith, h))
-
--- ---- the attempts of the leaves, one after another
+-- ---- the attempts of a leaf, one after another
 
 one-more : (node j count : ℕ) → leaf_versions node j (suc count) ≡ leaf_versions node j count ++ Attempt node (j + count) ∷ []
 one-more node j zero = ap (λ n. Attempt node n ∷ []) (let same : j ≡ j + 0 = omega arith in same)
@@ -47,158 +24,86 @@ one-more node j (suc count) =
 pub one-more-attempt : (node count : ℕ) → leaf_versions node 0 (suc count) ≡ leaf_versions node 0 count ++ Attempt node count ∷ []
 one-more-attempt node count = one-more node 0 count ∙ ap (λ n. leaf_versions node 0 count ++ Attempt node n ∷ []) (let same : 0 + count ≡ count = omega arith in same)
 
-length-leaf : (node j count : ℕ) (rest : List Meaning) (o : ℕ) → slice_get (leaf_versions node j count ++ rest) (count + o) ≡ slice_get rest o
-length-leaf node j zero rest o = ap (slice_get rest) (let same : 0 + o ≡ o = omega arith in same)
-length-leaf node j (suc count) rest o =
-    subst (λ i. slice_get (leaf_versions node j (suc count) ++ rest) i ≡ slice_get rest o) (let same : suc (count + o) ≡ suc count + o = omega arith in same) (length-leaf node (j + 1) count rest o)
-
-leaf-get : (node j count : ℕ) (rest : List Meaning) (k : ℕ) → k < count → slice_get (leaf_versions node j count ++ rest) k ≡ Some (Attempt node (j + k))
-leaf-get node j zero rest k less = absurd (omega (arith, less))
-leaf-get node j (suc count) rest zero less = ap (λ n. Some (Attempt node n)) (let same : j ≡ j + 0 = omega arith in same)
-leaf-get node j (suc count) rest (suc k) less = leaf-get node (j + 1) count rest k (omega (arith, less)) ∙ ap (λ n. Some (Attempt node n)) (let same : j + 1 + k ≡ j + suc k = omega arith in same)
-
-first-least : (first : ℕ) (counts : List ℕ) (i : ℕ) → i < length counts → first ≤ get_or (firsts_from first counts) i 0
-first-least first [] i less = absurd (omega (arith, less))
-first-least first (c ∷ counts) zero less = omega arith
-first-least first (c ∷ counts) (suc i) less = let h = first-least (first + c) counts i (omega (arith, less)) in omega (arith, h)
-
--- An attempt of the leaf at this place stands behind the first one's.
-pub attempt-at : (nodes counts : List ℕ) (first i k o : ℕ) → i < length nodes → length nodes ≡ length counts → k < get_or counts i 0 → first + o ≡ get_or (firsts_from first counts) i 0 + k
-    → slice_get (attempts_by nodes counts) o ≡ Some (Attempt (get_or nodes i 0) k)
-attempt-at [] counts first i k o less same few at = absurd (omega (arith, less))
-attempt-at (n ∷ nodes) [] first i k o less same few at = absurd (omega (arith, same))
-attempt-at (n ∷ nodes) (c ∷ counts) first zero k o less same few at =
-    let here : o ≡ k = omega (arith, at) in
-    subst (λ p. slice_get (leaf_versions n 0 c ++ attempts_by nodes counts) p ≡ Some (Attempt n k)) (sym here)
-    (leaf-get n 0 c (attempts_by nodes counts) k few ∙ ap (λ m. Some (Attempt n m)) (let z : 0 + k ≡ k = omega arith in z))
-attempt-at (n ∷ nodes) (c ∷ counts) first (suc i) k o less same few at =
-    let past = first-least (first + c) counts i (omega (arith, less, same)) in
-    let split : o ≡ c + (o - c) = omega (arith, at, past) in
-    subst (λ p. slice_get (leaf_versions n 0 c ++ attempts_by nodes counts) p ≡ Some (Attempt (get_or nodes i 0) k)) (sym split)
-    (length-leaf n 0 c (attempts_by nodes counts) (o - c) ∙ attempt-at nodes counts (first + c) i k (o - c) (omega (arith, less)) (omega (arith, same)) few (omega (arith, at, past)))
-
 pub nodes-some : {M G : Type 0} (plan : Plan M G) → 1 ≤ nodes plan
 nodes-some (leaf_plan leaf) = omega arith
 nodes-some (par_plan rule plans) = omega arith
 nodes-some (sel_plan timeout plans) = omega arith
 
-pub length-firsts : (first : ℕ) (counts : List ℕ) → length (firsts_from first counts) ≡ length counts
-length-firsts first [] = refl
-length-firsts first (c ∷ counts) = ap suc (length-firsts (first + c) counts)
-
--- ---- what isn't there
-
-differ : (a b : ℕ) → (a ≡ b → ⊥) → (a == b) ≡ false
-differ a b no_match = grind (arith, nat_tests)
-
-leaf-other : (node attempt n j count : ℕ) → (node == n) ≡ false → Apart (Attempt node attempt) (leaf_versions n j count)
-leaf-other node attempt n j zero other = tt
-leaf-other node attempt n j (suc count) other = (ap (λ v. v && attempt == j) other, leaf-other node attempt n (j + 1) count other)
-
--- An attempt stands nowhere where each leaf of its number has fewer.
-pub apart-all : (nodes counts : List ℕ) (node attempt : ℕ) → length nodes ≡ length counts → ((k : ℕ) → k < length nodes → get_or nodes k 0 ≡ node → get_or counts k 0 ≤ attempt)
-    → Apart (Attempt node attempt) (attempts_by nodes counts)
-apart-all [] counts node attempt same few = tt
-apart-all (n ∷ nodes) [] node attempt same few = absurd (omega (arith, same))
-apart-all (n ∷ nodes) (c ∷ counts) node attempt same few =
-    apart-append (Attempt node attempt) (leaf_versions n 0 c) (attempts_by nodes counts) (here (node == n) refl)
-    (apart-all nodes counts node attempt (omega (arith, same)) (λ k less is. few (suc k) (omega (arith, less)) is))
+one-later : (attempt count : ℕ) → option_map suc (if nat_lt attempt count then Some attempt else None) ≡ (if nat_lt (suc attempt) (suc count) then Some (suc attempt) else None)
+one-later attempt count = by (nat_lt attempt count) refl
   where
-    here : (v : Bool) → (node == n) ≡ v → Apart (Attempt node attempt) (leaf_versions n 0 c)
-    here true e =
-        let is : n ≡ node = grind (arith, nat_tests) in
-        let past = few 0 (omega arith) is in
-        subst (λ m. Apart (Attempt node attempt) (leaf_versions m 0 c)) (sym is) (leaf-apart-past node attempt 0 c (omega (arith, past)))
-    here false e = leaf-other node attempt n 0 c e
+    by : (b : Bool) → nat_lt attempt count ≡ b → option_map suc (if b then Some attempt else None) ≡ (if nat_lt (suc attempt) (suc count) then Some (suc attempt) else None)
+    by true e = let less : nat_lt (suc attempt) (suc count) ≡ true = grind (arith, nat_tests) in sym (ap (λ c. if c then Some (suc attempt) else None) less)
+    by false e = let past : nat_lt (suc attempt) (suc count) ≡ false = grind (arith, nat_tests) in sym (ap (λ c. if c then Some (suc attempt) else None) past)
 
--- ---- the leaves of a plan
+-- Where an attempt stands among those of its leaf, from the attempt j on.
+leaf-found : (node j count attempt : ℕ) → position (is_same (Attempt node (j + attempt))) (leaf_versions node j count) ≡ (if nat_lt attempt count then Some attempt else None)
+leaf-found node j zero attempt = let past : nat_lt attempt 0 ≡ false = grind (arith, nat_tests) in sym (ap (λ c. if c then Some attempt else None) past)
+leaf-found node j (suc count) zero =
+    let m = Attempt node (j + 0) in
+    let a : (node == node) ≡ true = grind (arith, nat_tests) in
+    let b : (j + 0 == j) ≡ true = grind (arith, nat_tests) in
+    let here : is_same m (Attempt node j) ≡ true = ap (λ v. v && j + 0 == j) a ∙ b in
+    let less : nat_lt 0 (suc count) ≡ true = grind (arith, nat_tests) in
+    position-cons (is_same m) (Attempt node j) (leaf_versions node (j + 1) count)
+    ∙ ap (λ v. cond v (Some 0) (option_map suc (position (is_same m) (leaf_versions node (j + 1) count)))) here ∙ sym (ap (λ c. if c then Some 0 else None) less)
+leaf-found node j (suc count) (suc attempt) =
+    let m = Attempt node (j + suc attempt) in
+    let a : (node == node) ≡ true = grind (arith, nat_tests) in
+    let b : (j + suc attempt == j) ≡ false = grind (arith, nat_tests) in
+    let other : is_same m (Attempt node j) ≡ false = ap (λ v. v && j + suc attempt == j) a ∙ b in
+    let same : j + suc attempt ≡ j + 1 + attempt = omega arith in
+    position-cons (is_same m) (Attempt node j) (leaf_versions node (j + 1) count)
+    ∙ ap (λ v. cond v (Some 0) (option_map suc (position (is_same m) (leaf_versions node (j + 1) count)))) other
+    ∙ ap (λ n. option_map suc (position (is_same (Attempt node n)) (leaf_versions node (j + 1) count))) same
+    ∙ ap (option_map suc) (leaf-found node (j + 1) count attempt) ∙ one-later attempt count
 
--- numbers that rise from the first bound to below the second
-abbrev pub RisesIn : ℕ → ℕ → List ℕ → Type 0
-RisesIn low high [] = low ≤ high
-RisesIn low high (x ∷ xs) = (low ≤ x) × RisesIn (x + 1) high xs
+place-if : (first attempt : ℕ) (b : Bool) → option_map (λ i. first + i) (if b then Some attempt else None) ≡ (if b then Some (first + attempt) else None)
+place-if first attempt true = refl
+place-if first attempt false = refl
 
-rise-wider : (low high lower higher : ℕ) (xs : List ℕ) → lower ≤ low → high ≤ higher → RisesIn low high xs → RisesIn lower higher xs
-rise-wider low high lower higher [] le le' h = omega (arith, h, le, le')
-rise-wider low high lower higher (x ∷ xs) le le' h = let a = h.0 in (omega (arith, a, le), rise-wider (x + 1) high (x + 1) higher xs (omega arith) le' h.1)
+-- ---- a list and then another one
 
-rise-append : (low mid high : ℕ) (xs ys : List ℕ) → RisesIn low mid xs → RisesIn mid high ys → mid ≤ high → RisesIn low high (xs ++ ys)
-rise-append low mid high [] ys h hs le = later low mid high ys h hs
-  where
-    later : (low mid high : ℕ) (ys : List ℕ) → low ≤ mid → RisesIn mid high ys → RisesIn low high ys
-    later low mid high [] h hs = omega (arith, h, hs)
-    later low mid high (y ∷ ys) h hs = let a = hs.0 in (omega (arith, a, h), hs.1)
-rise-append low mid high (x ∷ xs) ys h hs le = (h.0, rise-append (x + 1) mid high xs ys h.1 hs le)
+pub get-left : {X : Type 0} (xs ys : List X) (k : ℕ) → k < length xs → slice_get (xs ++ ys) k ≡ slice_get xs k
+get-left [] ys k less = absurd (omega (arith, less))
+get-left (x ∷ xs) ys zero less = refl
+get-left (x ∷ xs) ys (suc k) less = get-left xs ys k (omega (arith, less))
 
-rises-place : (low high : ℕ) (xs : List ℕ) (j : ℕ) → RisesIn low high xs → j < length xs → low ≤ get_or xs j 0
-rises-place low high [] j h less = absurd (omega (arith, less))
-rises-place low high (x ∷ xs) zero h less = h.0
-rises-place low high (x ∷ xs) (suc j) h less = let a = rises-place (x + 1) high xs j h.1 (omega (arith, less)) in let b = h.0 in omega (arith, a, b)
+pub get-right : {X : Type 0} (xs ys : List X) (k j : ℕ) → k ≡ length xs + j → slice_get (xs ++ ys) k ≡ slice_get ys j
+get-right [] ys k j e = ap (slice_get ys) (let same : k ≡ j = omega (arith, e) in same)
+get-right (x ∷ xs) ys zero j e = absurd (omega (arith, e))
+get-right (x ∷ xs) ys (suc k) j e = get-right xs ys k j (omega (arith, e))
 
-pub rises : (low high : ℕ) (xs : List ℕ) → RisesIn low high xs → IsRising xs
-rises low high [] h i j less most = absurd (omega (arith, most))
-rises low high (x ∷ xs) h zero zero less most = absurd (omega (arith, less))
-rises low high (x ∷ xs) h zero (suc j) less most = let a = rises-place (x + 1) high xs j h.1 (omega (arith, most)) in omega (arith, a)
-rises low high (x ∷ xs) h (suc i) zero less most = absurd (omega (arith, less))
-rises low high (x ∷ xs) h (suc i) (suc j) less most = rises (x + 1) high xs h.1 i j (omega (arith, less)) (omega (arith, most))
+pub one-past : (count : ℕ) (o : Option ℕ) → option_map suc (option_map (λ i. count + i) o) ≡ option_map (λ i. suc count + i) o
+one-past count None = refl
+one-past count (Some i) = ap Some (let same : suc (count + i) ≡ suc count + i = omega arith in same)
 
-by-append : (ns ms cs ds : List ℕ) → length ns ≡ length cs → attempts_by (ns ++ ms) (cs ++ ds) ≡ attempts_by ns cs ++ attempts_by ms ds
-by-append [] ms [] ds same = refl
-by-append [] ms (c ∷ cs) ds same = absurd (omega (arith, same))
-by-append (n ∷ ns) ms [] ds same = absurd (omega (arith, same))
-by-append (n ∷ ns) ms (c ∷ cs) ds same =
-    ap (λ xs. leaf_versions n 0 c ++ xs) (by-append ns ms cs ds (omega (arith, same))) ∙ sym (append_assoc (leaf_versions n 0 c) (attempts_by ns cs) (attempts_by ms ds))
+pub none-past : (o : Option ℕ) → o ≡ option_map (λ i. 0 + i) o
+none-past None = refl
+none-past (Some i) = ap Some (let same : i ≡ 0 + i = omega arith in same)
 
-module _ {M G : Type 0} where
-  mutual
-    pub same-length : (node : ℕ) (plan : Plan M G) → length (leaf_nodes node plan) ≡ length (leaf_counts plan)
-    same-length node (leaf_plan leaf) = refl
-    same-length node (par_plan rule plans) = same-all (node + 1) plans
-    same-length node (sel_plan timeout plans) = same-all (node + 1) plans
+both-past : (a b end : ℕ) (o : Option ℕ) → a + b ≡ end → option_map (λ i. a + i) (option_map (λ i. b + i) o) ≡ option_map (λ i. end + i) o
+both-past a b end None e = refl
+both-past a b end (Some i) e = ap Some (let same : a + (b + i) ≡ end + i = omega (arith, e) in same)
 
-    same-all : (node : ℕ) (plans : Plans M G) → length (leaf_nodes_of node plans) ≡ length (leaf_counts_of plans)
-    same-all node last_plan = refl
-    same-all node (plan_then plan plans) =
-        let a = same-length node plan in
-        let b = same-all (node + nodes plan) plans in
-        let l = length-append (leaf_nodes node plan) (leaf_nodes_of (node + nodes plan) plans) in
-        let m = length-append (leaf_counts plan) (leaf_counts_of plans) in
-        omega (arith, a, b, l, m)
+behind-apart : (m : Meaning) (xs ys : List Meaning) → Apart m xs → position (is_same m) (xs ++ ys) ≡ option_map (λ i. length xs + i) (position (is_same m) ys)
+behind-apart m [] ys h = none-past (position (is_same m) ys)
+behind-apart m (x ∷ xs) ys h =
+    position-cons (is_same m) x (xs ++ ys) ∙ ap (λ v. cond v (Some 0) (option_map suc (position (is_same m) (xs ++ ys)))) h.0
+    ∙ ap (option_map suc) (behind-apart m xs ys h.1) ∙ one-past (length xs) (position (is_same m) ys)
 
-  mutual
-    pub attempts-are : (node : ℕ) (plan : Plan M G) → attempt_versions node plan ≡ attempts_by (leaf_nodes node plan) (leaf_counts plan)
-    attempts-are node (leaf_plan leaf) = sym (append-nil (leaf_versions node 0 (leaf.retry + 1)))
-    attempts-are node (par_plan rule plans) = all-are (node + 1) plans
-    attempts-are node (sel_plan timeout plans) = all-are (node + 1) plans
+before-apart : (m : Meaning) (xs ys : List Meaning) → Apart m ys → position (is_same m) (xs ++ ys) ≡ position (is_same m) xs
+before-apart m [] ys h = position-none m ys h
+before-apart m (x ∷ xs) ys h =
+    position-cons (is_same m) x (xs ++ ys) ∙ ap (λ o. cond (is_same m x) (Some 0) (option_map suc o)) (before-apart m xs ys h) ∙ sym (position-cons (is_same m) x xs)
 
-    all-are : (node : ℕ) (plans : Plans M G) → attempt_versions_of node plans ≡ attempts_by (leaf_nodes_of node plans) (leaf_counts_of plans)
-    all-are node last_plan = refl
-    all-are node (plan_then plan plans) =
-        ap (λ xs. xs ++ attempt_versions_of (node + nodes plan) plans) (attempts-are node plan)
-        ∙ ap (λ ys. attempts_by (leaf_nodes node plan) (leaf_counts plan) ++ ys) (all-are (node + nodes plan) plans)
-        ∙ sym (by-append (leaf_nodes node plan) (leaf_nodes_of (node + nodes plan) plans) (leaf_counts plan) (leaf_counts_of plans) (same-length node plan))
+other-node : (n node : ℕ) (v : Bool) → (n ≡ node → ⊥) → (n == node && v) ≡ false
+other-node n node v differ = let other : (n == node) ≡ false = grind (arith, nat_tests) in ap (λ w. w && v) other
 
-  mutual
-    pub leaves-rise : (node : ℕ) (plan : Plan M G) → RisesIn node (node + nodes plan) (leaf_nodes node plan)
-    leaves-rise node (leaf_plan leaf) = (omega arith, omega arith)
-    leaves-rise node (par_plan rule plans) =
-        rise-wider (node + 1) (node + 1 + nodes_of plans) node (node + (1 + nodes_of plans)) (leaf_nodes_of (node + 1) plans) (omega arith) (omega arith) (all-rise (node + 1) plans)
-    leaves-rise node (sel_plan timeout plans) =
-        rise-wider (node + 1) (node + 1 + nodes_of plans) node (node + (1 + nodes_of plans)) (leaf_nodes_of (node + 1) plans) (omega arith) (omega arith) (all-rise (node + 1) plans)
-
-    all-rise : (node : ℕ) (plans : Plans M G) → RisesIn node (node + nodes_of plans) (leaf_nodes_of node plans)
-    all-rise node last_plan = omega arith
-    all-rise node (plan_then plan plans) =
-        rise-append node (node + nodes plan) (node + (nodes plan + nodes_of plans)) (leaf_nodes node plan) (leaf_nodes_of (node + nodes plan) plans) (leaves-rise node plan)
-        (rise-wider (node + nodes plan) (node + nodes plan + nodes_of plans) (node + nodes plan) (node + (nodes plan + nodes_of plans)) (leaf_nodes_of (node + nodes plan) plans)
-        (omega arith) (omega arith) (all-rise (node + nodes plan) plans)) (omega arith)
-
--- ---- what is found in the lists
-
-pub within-total : (first : ℕ) (counts : List ℕ) (i : ℕ) → i < length counts → get_or (firsts_from first counts) i 0 + get_or counts i 0 ≤ first + total counts
-within-total first [] i less = absurd (omega (arith, less))
-within-total first (c ∷ counts) zero less = omega arith
-within-total first (c ∷ counts) (suc i) less = let h = within-total (first + c) counts i (omega (arith, less)) in omega (arith, h)
+apart-below : (n k low high : ℕ) (xs : List Meaning) → n < low → Within low high xs → Apart (Attempt n k) xs
+apart-below n k low high [] less h = tt
+apart-below n k low high (Node node ∷ xs) less h = absurd h
+apart-below n k low high (Attempt node j ∷ xs) less h = let a = h.0 in (other-node n node (k == j) (λ e. absurd (omega (arith, e, less, a))), apart-below n k low high xs less h.2)
 
 pub before_or_not : (a b : ℕ) → (a < b) ⊎ (b ≤ a)
 before_or_not a b = by (nat_lt a b) refl
@@ -207,51 +112,124 @@ before_or_not a b = by (nat_lt a b) refl
     by true e = inl (grind (arith, nat_tests))
     by false e = inr (grind (arith, nat_tests))
 
-module _ (leaves counts : List ℕ) (node attempt : ℕ) (same : length leaves ≡ length counts) where
-  pub found-place : (at : ℕ) → IsDistinct is_same (attempts_by leaves counts) → at < length leaves → get_or leaves at 0 ≡ node → attempt < get_or counts at 0
-      → position (is_same (Attempt node attempt)) (attempts_by leaves counts) ≡ Some (get_or (firsts_from 0 counts) at 0 + attempt)
-  found-place at distinct less is few =
-      let o = get_or (firsts_from 0 counts) at 0 + attempt in
-      let there = attempt-at leaves counts 0 at attempt o less same few (omega arith) in
-      position-of (Attempt node attempt) (attempts_by leaves counts) o distinct (there ∙ ap (λ n. Some (Attempt n attempt)) is)
+-- A node that isn't a leaf stands before those below it.
+pub root-then : (old : List (Option PlanLeaf)) (rest : List (Option Entry)) → entries_of (old ++ None ∷ []) ++ rest ≡ entries_of old ++ None ∷ rest
+root-then [] rest = refl
+root-then (leaf ∷ old) rest = ap (λ es. option_map entry_of leaf ∷ es) (root-then old rest)
 
-  pub past-place : (at : ℕ) → IsRising leaves → at < length leaves → get_or leaves at 0 ≡ node → get_or counts at 0 ≤ attempt
-      → position (is_same (Attempt node attempt)) (attempts_by leaves counts) ≡ None
-  past-place at rise less is past =
-      position-none (Attempt node attempt) (attempts_by leaves counts) (apart-all leaves counts node attempt same (λ k short here. by k short here (before_or_not k at) (before_or_not at k)))
-    where
-      by : (k : ℕ) → k < length leaves → get_or leaves k 0 ≡ node → (k < at) ⊎ (at ≤ k) → (at < k) ⊎ (k ≤ at) → get_or counts k 0 ≤ attempt
-      by k short here (inl before) other = absurd (let r = rise k at before less in omega (arith, r, here, is))
-      by k short here (inr le) (inl behind) = absurd (let r = rise at k behind short in omega (arith, r, here, is))
-      by k short here (inr le) (inr ge) = let k_is : k ≡ at = omega (arith, le, ge) in subst (λ j. get_or counts j 0 ≤ attempt) (sym k_is) past
-
-  pub absent-place : (i : ℕ) → ((k : ℕ) → k < i → get_or leaves k 0 < node) → ((k : ℕ) → i ≤ k → k < length leaves → node < get_or leaves k 0)
-      → position (is_same (Attempt node attempt)) (attempts_by leaves counts) ≡ None
-  absent-place i below above =
-      position-none (Attempt node attempt) (attempts_by leaves counts) (apart-all leaves counts node attempt same (λ k short here. absurd (by k short here (before_or_not k i))))
-    where
-      by : (k : ℕ) → k < length leaves → get_or leaves k 0 ≡ node → (k < i) ⊎ (i ≤ k) → ⊥
-      by k short here (inl less) = let b = below k less in omega (arith, b, here)
-      by k short here (inr le) = let a = above k le short in omega (arith, a, here)
+-- ---- how many there are
 
 module _ {M G : Type 0} where
-  pub same_length : (p : Plan M G) → length (leaf_nodes 0 p) ≡ length (leaf_counts p)
-  same_length p = same-length 0 p
+  mutual
+    pub count-entries : (first : ℕ) (plan : Plan M G) → length (entries first plan) ≡ nodes plan
+    count-entries first (leaf_plan leaf) = refl
+    count-entries first (par_plan rule plans) = let h = count-below first plans in omega (arith, h)
+    count-entries first (sel_plan timeout plans) = let h = count-below first plans in omega (arith, h)
 
-length-by : (leaves counts : List ℕ) → length (attempts_by leaves counts) ≤ total counts
-length-by [] [] = omega arith
-length-by [] (c ∷ counts) = omega arith
-length-by (n ∷ leaves) [] = omega arith
-length-by (n ∷ leaves) (c ∷ counts) =
-    let h = length-by leaves counts in
-    let l = length-append (leaf_versions n 0 c) (attempts_by leaves counts) in
-    let k = count-versions n 0 c in
-    omega (arith, h, l, k)
+    count-below : (first : ℕ) (plans : Plans M G) → length (entries_below first plans) ≡ nodes_of plans
+    count-below first last_plan = refl
+    count-below first (plan_then plan plans) =
+        let l = length-append (entries first plan) (entries_below (first + possible_attempts plan) plans) in
+        let a = count-entries first plan in
+        let b = count-below (first + possible_attempts plan) plans in
+        omega (arith, l, a, b)
 
--- What is found among the attempts has a place below their number.
-pub place-short : (leaves counts : List ℕ) (m : Meaning) (i : ℕ) → Some i ≡ position (is_same m) (attempts_by leaves counts) → i < total counts
-place-short leaves counts m i e =
-    let place = position_some (is_same m) (attempts_by leaves counts) i (sym e) in
-    let within = place.1 in
-    let l = length-by leaves counts in
-    omega (arith, within, l)
+  mutual
+    count-attempts : (node : ℕ) (plan : Plan M G) → length (attempt_versions node plan) ≡ possible_attempts plan
+    count-attempts node (leaf_plan leaf) = count-versions node 0 (leaf.retry + 1)
+    count-attempts node (par_plan rule plans) = count-all (node + 1) plans
+    count-attempts node (sel_plan timeout plans) = count-all (node + 1) plans
+
+    count-all : (node : ℕ) (plans : Plans M G) → length (attempt_versions_of node plans) ≡ possible_attempts_of plans
+    count-all node last_plan = refl
+    count-all node (plan_then plan plans) =
+        let l = length-append (attempt_versions node plan) (attempt_versions_of (node + nodes plan) plans) in
+        let a = count-attempts node plan in
+        let b = count-all (node + nodes plan) plans in
+        omega (arith, l, a, b)
+
+  -- ---- where an attempt stands
+
+  -- the attempt of the node k behind the root stands where the table says
+  abbrev IsFound : ℕ → ℕ → Plan M G → ℕ → ℕ → Type 0
+  IsFound first node plan k attempt =
+      option_map (λ i. first + i) (position (is_same (Attempt (node + k) attempt)) (attempt_versions node plan)) ≡ place_in (entry_at (entries first plan) k) attempt
+
+  abbrev IsFoundBelow : ℕ → ℕ → Plans M G → ℕ → ℕ → Type 0
+  IsFoundBelow first node plans k attempt =
+      option_map (λ i. first + i) (position (is_same (Attempt (node + k) attempt)) (attempt_versions_of node plans)) ≡ place_in (entry_at (entries_below first plans) k) attempt
+
+  -- It is an attempt of the first plan, or of those behind it.
+  found-joined : (first node : ℕ) (plan : Plan M G) (plans : Plans M G) (k attempt : ℕ) → IsFound first node plan k attempt
+      → ((j : ℕ) → IsFoundBelow (first + possible_attempts plan) (node + nodes plan) plans j attempt) → IsFoundBelow first node (plan_then plan plans) k attempt
+  found-joined first node plan plans k attempt here below = by (before_or_not k (nodes plan))
+    where
+      by : (k < nodes plan) ⊎ (nodes plan ≤ k) → IsFoundBelow first node (plan_then plan plans) k attempt
+      by (inl less) =
+          let ys = attempt_versions_of (node + nodes plan) plans in
+          let apart = apart-below (node + k) attempt (node + nodes plan) (node + nodes plan + nodes_of plans) ys (omega (arith, less)) (all-within (node + nodes plan) plans) in
+          let long = count-entries first plan in
+          ap (option_map (λ i. first + i)) (before-apart (Attempt (node + k) attempt) (attempt_versions node plan) ys apart) ∙ here
+          ∙ ap (λ e. place_in (entry_or_none e) attempt) (sym (get-left (entries first plan) (entries_below (first + possible_attempts plan) plans) k (omega (arith, less, long))))
+      by (inr le) =
+          let xs = attempt_versions node plan in
+          let ys = attempt_versions_of (node + nodes plan) plans in
+          let end = first + possible_attempts plan in
+          let apart = apart-above (node + k) attempt node (node + nodes plan) xs (omega (arith, le)) (attempts-within node plan) in
+          let many = count-attempts node plan in
+          let long = count-entries first plan in
+          let same : node + k ≡ node + nodes plan + (k - nodes plan) = omega (arith, le) in
+          ap (option_map (λ i. first + i)) (behind-apart (Attempt (node + k) attempt) xs ys apart)
+          ∙ both-past first (length xs) end (position (is_same (Attempt (node + k) attempt)) ys) (omega (arith, many))
+          ∙ ap (λ n. option_map (λ i. end + i) (position (is_same (Attempt n attempt)) ys)) same ∙ below (k - nodes plan)
+          ∙ ap (λ e. place_in (entry_or_none e) attempt) (sym (get-right (entries first plan) (entries_below end plans) k (k - nodes plan) (omega (arith, le, long))))
+
+  -- The root has no attempt, and what is below it stands one number behind.
+  found-root : (first node : ℕ) (plans : Plans M G) (attempt : ℕ) → option_map (λ i. first + i) (position (is_same (Attempt (node + 0) attempt)) (attempt_versions_of (node + 1) plans)) ≡ None
+  found-root first node plans attempt =
+      let xs = attempt_versions_of (node + 1) plans in
+      let apart = apart-below (node + 0) attempt (node + 1) (node + 1 + nodes_of plans) xs (omega arith) (all-within (node + 1) plans) in
+      ap (option_map (λ i. first + i)) (position-none (Attempt (node + 0) attempt) xs apart)
+
+  found-later : (first node : ℕ) (plans : Plans M G) (k attempt : ℕ) → IsFoundBelow first (node + 1) plans k attempt
+      → option_map (λ i. first + i) (position (is_same (Attempt (node + suc k) attempt)) (attempt_versions_of (node + 1) plans)) ≡ place_in (entry_at (entries_below first plans) k) attempt
+  found-later first node plans k attempt below =
+      let same : node + suc k ≡ node + 1 + k = omega arith in
+      ap (λ n. option_map (λ i. first + i) (position (is_same (Attempt n attempt)) (attempt_versions_of (node + 1) plans))) same ∙ below
+
+  mutual
+    found : (first node : ℕ) (plan : Plan M G) (k attempt : ℕ) → IsFound first node plan k attempt
+    found first node (leaf_plan leaf) zero attempt =
+        let xs = leaf_versions node 0 (leaf.retry + 1) in
+        let same : node + 0 ≡ node = omega arith in
+        let from : attempt ≡ 0 + attempt = omega arith in
+        ap (λ n. option_map (λ i. first + i) (position (is_same (Attempt n attempt)) xs)) same ∙ ap (λ a. option_map (λ i. first + i) (position (is_same (Attempt node a)) xs)) from
+        ∙ ap (option_map (λ i. first + i)) (leaf-found node 0 (leaf.retry + 1) attempt) ∙ place-if first attempt (nat_lt attempt (leaf.retry + 1))
+    found first node (leaf_plan leaf) (suc k) attempt =
+        let xs = leaf_versions node 0 (leaf.retry + 1) in
+        let apart = apart-above (node + suc k) attempt node (node + 1) xs (omega arith) (attempts-within {M = M} {G = G} node (leaf_plan leaf)) in
+        ap (option_map (λ i. first + i)) (position-none (Attempt (node + suc k) attempt) xs apart)
+    found first node (par_plan rule plans) zero attempt = found-root first node plans attempt
+    found first node (par_plan rule plans) (suc k) attempt = found-later first node plans k attempt (found-below first (node + 1) plans k attempt)
+    found first node (sel_plan timeout plans) zero attempt = found-root first node plans attempt
+    found first node (sel_plan timeout plans) (suc k) attempt = found-later first node plans k attempt (found-below first (node + 1) plans k attempt)
+
+    found-below : (first node : ℕ) (plans : Plans M G) (k attempt : ℕ) → IsFoundBelow first node plans k attempt
+    found-below first node last_plan k attempt = refl
+    found-below first node (plan_then plan plans) k attempt =
+        found-joined first node plan plans k attempt (found first node plan k attempt) (λ j. found-below (first + possible_attempts plan) (node + nodes plan) plans j attempt)
+
+  pub attempt_place : (p : Plan M G) (node attempt : ℕ) → position (is_same (Attempt node attempt)) (attempt_versions 0 p) ≡ place_in (entry_at (entries 0 p) node) attempt
+  attempt_place p node attempt =
+      let same : node ≡ 0 + node = omega arith in
+      ap (λ n. position (is_same (Attempt n attempt)) (attempt_versions 0 p)) same ∙ none-past (position (is_same (Attempt (0 + node) attempt)) (attempt_versions 0 p)) ∙ found 0 0 p node attempt
+
+  -- The place is below the number of all attempts.
+  pub place_short : (p : Plan M G) (node attempt : ℕ) (e : Entry) → entry_at (entries 0 p) node ≡ Some e → attempt < e.count → e.first + attempt < possible_attempts p
+  place_short p node attempt e is few =
+      let less : nat_lt attempt e.count ≡ true = grind (arith, nat_tests) in
+      let found = attempt_place p node attempt ∙ ap (λ o. place_in o attempt) is ∙ ap (λ b. if b then Some (e.first + attempt) else None) less in
+      let place = position_some (is_same (Attempt node attempt)) (attempt_versions 0 p) (e.first + attempt) found in
+      let within = place.1 in
+      let many = count-attempts 0 p in
+      omega (arith, within, many)

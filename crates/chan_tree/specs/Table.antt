@@ -1,62 +1,52 @@
--- The leaves of a plan as lists: their numbers, the places of their first attempts, how many attempts each may issue, and their channels.
-use Rattle.std.specs.Prelude.{ℕ, ◌+◌, ◌<◌, ◌≤◌, ◌==◌, List, [], ◌∷◌, ◌++◌, length, get_or, Option, None, Some, if◌then◌else◌}
+-- The leaves of a plan by the numbers of its nodes, and places that rise.
+use Rattle.std.specs.Prelude.{ℕ, ◌+◌, ◌<◌, ◌≤◌, nat_lt, List, [], ◌∷◌, ◌++◌, length, map, get_or, slice_get, Option, None, Some, if◌then◌else◌}
+use Rattle.std.specs.Arc.{arc_value}
+use Rattle.std.specs.Option.{option_map}
 use Rattle.rpc_model.specs.declared.chan.LeafChan.{LeafChan}
-use Rattle.rpc_model.specs.declared.meaning.Meaning.{Meaning}
 use Rattle.rpc_model.specs.Plan.{Plan, leaf_plan, par_plan, sel_plan, Plans, last_plan, plan_then}
-use Rattle.rpc_model.specs.Versions.{nodes, leaf_versions, or_leaf}
+use Rattle.rpc_model.specs.Versions.{possible_attempts}
+use Rattle.chan_tree.specs.declared.table.PlanLeaf.{PlanLeaf}
 
--- the places of the first attempts, where the first leaf's is this
-abbrev pub firsts_from : ℕ → List ℕ → List ℕ
-firsts_from first [] = []
-firsts_from first (count ∷ counts) = first ∷ firsts_from (first + count) counts
+-- a leaf: the place of its first attempt among all attempts, how many it may issue, and its channel
+pub record Entry : Type 0 where
+  pub first : ℕ
+  pub count : ℕ
+  pub chan : LeafChan
 
--- the attempts of leaves with these numbers and counts
-abbrev pub attempts_by : List ℕ → List ℕ → List Meaning
-attempts_by [] counts = []
-attempts_by (node ∷ nodes) [] = []
-attempts_by (node ∷ nodes) (count ∷ counts) = leaf_versions node 0 count ++ attempts_by nodes counts
+abbrev pub entry_of : PlanLeaf → Entry
+entry_of leaf = record { first = leaf.first; count = leaf.count; chan = arc_value leaf.chan }
 
--- the first leaf of this number among leaves with these numbers and channels
-abbrev pub leaf_by : List ℕ → List LeafChan → ℕ → Option LeafChan
-leaf_by [] chans wanted = None
-leaf_by (node ∷ nodes) [] wanted = None
-leaf_by (node ∷ nodes) (chan ∷ chans) wanted = or_leaf (if node == wanted then Some chan else None) (leaf_by nodes chans wanted)
+abbrev pub entries_of : List (Option PlanLeaf) → List (Option Entry)
+entries_of leaves = map (option_map entry_of) leaves
 
 module _ {M G : Type 0} where
+  -- for each node in preorder the leaf that it is, where the first attempt of all has this place
   abbrev mutual
-    pub leaf_nodes : ℕ → Plan M G → List ℕ
-    leaf_nodes node (leaf_plan leaf) = node ∷ []
-    leaf_nodes node (par_plan rule plans) = leaf_nodes_of (node + 1) plans
-    leaf_nodes node (sel_plan timeout plans) = leaf_nodes_of (node + 1) plans
+    pub entries : ℕ → Plan M G → List (Option Entry)
+    entries first (leaf_plan leaf) = Some record { first = first; count = leaf.retry + 1; chan = leaf } ∷ []
+    entries first (par_plan rule plans) = None ∷ entries_below first plans
+    entries first (sel_plan timeout plans) = None ∷ entries_below first plans
 
-    pub leaf_nodes_of : ℕ → Plans M G → List ℕ
-    leaf_nodes_of node last_plan = []
-    leaf_nodes_of node (plan_then plan plans) = leaf_nodes node plan ++ leaf_nodes_of (node + nodes plan) plans
+    pub entries_below : ℕ → Plans M G → List (Option Entry)
+    entries_below first last_plan = []
+    entries_below first (plan_then plan plans) = entries first plan ++ entries_below (first + possible_attempts plan) plans
 
-  abbrev mutual
-    pub leaf_counts : Plan M G → List ℕ
-    leaf_counts (leaf_plan leaf) = (leaf.retry + 1) ∷ []
-    leaf_counts (par_plan rule plans) = leaf_counts_of plans
-    leaf_counts (sel_plan timeout plans) = leaf_counts_of plans
+-- the leaf at a number, none where no node or another one is there
+abbrev pub entry_or_none : Option (Option Entry) → Option Entry
+entry_or_none None = None
+entry_or_none (Some entry) = entry
 
-    pub leaf_counts_of : Plans M G → List ℕ
-    leaf_counts_of last_plan = []
-    leaf_counts_of (plan_then plan plans) = leaf_counts plan ++ leaf_counts_of plans
+abbrev pub entry_at : List (Option Entry) → ℕ → Option Entry
+entry_at entries node = entry_or_none (slice_get entries node)
 
-  abbrev mutual
-    pub leaf_chans : Plan M G → List LeafChan
-    leaf_chans (leaf_plan leaf) = leaf ∷ []
-    leaf_chans (par_plan rule plans) = leaf_chans_of plans
-    leaf_chans (sel_plan timeout plans) = leaf_chans_of plans
+-- the place of an attempt among all attempts, where the leaf may issue it
+abbrev pub place_in : Option Entry → ℕ → Option ℕ
+place_in None attempt = None
+place_in (Some entry) attempt = if nat_lt attempt entry.count then Some (entry.first + attempt) else None
 
-    pub leaf_chans_of : Plans M G → List LeafChan
-    leaf_chans_of last_plan = []
-    leaf_chans_of (plan_then plan plans) = leaf_chans plan ++ leaf_chans_of plans
-
--- the numbers together
-abbrev pub total : List ℕ → ℕ
-total [] = 0
-total (x ∷ xs) = x + total xs
+abbrev pub chan_in : Option Entry → Option LeafChan
+chan_in None = None
+chan_in (Some entry) = Some entry.chan
 
 -- numbers that rise
 abbrev pub IsRising : List ℕ → Type 0

@@ -3,13 +3,12 @@ ghost use Rattle.std.specs.Prelude.{◌≡◌, ℕ, ◌<◌, ◌≤◌, Option, 
 ghost use Rattle.rpc_model.specs.Versions as versions;
 ghost use Rattle.rpc_model.specs.declared.meaning.Meaning.TheVariants as meaning;
 
-use crate::table::{Table, add_tree, attempt_of, leaf_of, meaning_at};
+use crate::table::{PlanLeaf, Table, add_tree, leaf_at, meaning_at};
 use crate::tree::PlanTree;
 use rpc_base::NoMemory;
 use rpc_model::{LeafChan, Meaning};
 use std::alloc::Global;
 use std::marker::Model;
-use std::sync::Arc;
 
 /// The plan of a call. Its range of ids has one version for each node and one for each attempt that a leaf may issue.
 #[derive(Drop)]
@@ -17,10 +16,7 @@ pub struct Plan<M, G> {
     tree: PlanTree<M, G>,
     nodes: u32,
     width: u32,
-    leaves: Vec<u32>,
-    firsts: Vec<u32>,
-    counts: Vec<u32>,
-    chans: Vec<Arc<LeafChan>>,
+    leaves: Vec<Option<PlanLeaf>>,
     meanings: Vec<Meaning>,
 }
 
@@ -53,9 +49,6 @@ pub(crate) fn tabled<M: Drop, G: Drop>(
         nodes: 0,
         attempts: 0,
         leaves: Vec::new(alloc),
-        firsts: Vec::new(alloc),
-        counts: Vec::new(alloc),
-        chans: Vec::new(alloc),
         meanings: Vec::new(alloc),
     };
     add_tree(&tree, &mut table)?;
@@ -63,9 +56,6 @@ pub(crate) fn tabled<M: Drop, G: Drop>(
         nodes,
         attempts,
         leaves,
-        firsts,
-        counts,
-        chans,
         meanings,
     } = table;
     Ok(Plan {
@@ -73,9 +63,6 @@ pub(crate) fn tabled<M: Drop, G: Drop>(
         nodes,
         width: nodes + attempts,
         leaves,
-        firsts,
-        counts,
-        chans,
         meanings,
     })
 }
@@ -114,20 +101,17 @@ impl<M, G> Plan<M, G> {
 
     /// An attempt: the offset of its version in the range, and its leaf. None exactly where the node isn't a leaf or has no
     /// such attempt.
-    #[tactic(auto, using(crate::proofs::Offsets::attempt_offset, crate::proofs::Offsets::leaves_rise, crate::proofs::Offsets::attempts_differ, crate::proofs::Offsets::few_attempts, crate::proofs::Tables::same_length, crate::proofs::Leaves::leaf_is))]
+    #[tactic(auto, using(crate::proofs::Offsets::attempt_offset, crate::proofs::Leaves::leaf_is))]
     pub fn attempt(&self, node: u32, attempt: u32) -> Option<(u32, &LeafChan)>
         ensures offset { option_map (λ a. a.0) result ≡ versions.offset_of self.now (meaning.Attempt node attempt) }
         ensures leaf { IfSome result (λ a. Some a.1.now ≡ versions.leaf_at 0 self.now node) }
     {
-        let (place, leaf) = attempt_of(
-            self.leaves.as_slice(),
-            self.firsts.as_slice(),
-            self.counts.as_slice(),
-            self.chans.as_slice(),
-            node,
-            attempt,
-        )?;
-        Some((self.nodes + place, leaf))
+        let leaf = leaf_at(self.leaves.as_slice(), node)?;
+        if attempt >= leaf.count {
+            return None;
+        }
+        let place = leaf.first + attempt;
+        Some((self.nodes + place, &*leaf.chan))
     }
 
     /// The offset of an attempt's version in the range: none exactly where the node isn't a leaf or has no such attempt.
@@ -139,11 +123,12 @@ impl<M, G> Plan<M, G> {
     }
 
     /// The leaf of this number. None exactly where the node of this number isn't a leaf.
-    #[tactic(auto, using(crate::proofs::Leaves::leaf_is, crate::proofs::Leaves::same_chans, crate::proofs::Offsets::leaves_rise))]
+    #[tactic(auto, using(crate::proofs::Leaves::leaf_is))]
     pub fn leaf(&self, node: u32) -> Option<&LeafChan>
         ensures { option_map (λ l. l.now) result ≡ versions.leaf_at 0 self.now node }
     {
-        leaf_of(self.leaves.as_slice(), self.chans.as_slice(), node)
+        let leaf = leaf_at(self.leaves.as_slice(), node)?;
+        Some(&*leaf.chan)
     }
 
     /// What the version at an offset is of: none exactly where the offset isn't below the width.

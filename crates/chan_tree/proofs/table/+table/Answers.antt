@@ -1,10 +1,9 @@
 -- The leaves of one tree, and then those of the others.
-use Rattle.std.proofs.Common.{rules, arith, ◌++◌, ap, sym, ◌∙◌}
-use Rattle.std.proofs.lemmas.List.{append_assoc}
+use Rattle.std.proofs.Common.{rules, arith, ◌++◌, [], ◌∷◌, None, ap, sym, ◌∙◌}
 use Rattle.rpc_model.specs.Versions as versions
-use Rattle.chan_tree.specs.Table as table
-use Rattle.chan_tree.specs.Shown.{plans_of}
-use Rattle.chan_tree.proofs.Tables.{nodes-some, firsts-then}
+use Rattle.chan_tree.specs.Shown.{plan_of, plans_of}
+use Rattle.chan_tree.specs.Table.{entries_of, entries, entries_below}
+use Rattle.chan_tree.proofs.Tables.{nodes-some, root-then}
 use Rattle.chan_tree.proofs.table.+table.Goals as goal
 
 pub add_trees-add_trees-requires : goal.add_trees-add_trees-requires
@@ -18,14 +17,22 @@ add_trees-add_trees-requires g t c κs within =
     let ra = c.requires.attempts in
     (omega (arith, n, some, c.decreases), (search rules, (search rules, (omega (arith, n, nodes, rn), omega (arith, a, attempts, ra)))))
 
-pub add_trees-returns-clause-firsts : goal.add_trees-returns-clause-firsts
-add_trees-returns-clause-firsts g t c =
-    let old = c.args.to.now.firsts.items in
+pub add_tree-returns-in_ok-add_trees-in-Par-clause-leaves : goal.add_tree-returns-in_ok-add_trees-in-Par-clause-leaves
+add_tree-returns-in_ok-add_trees-in-Par-clause-leaves g t c =
+    let old = c.args.to.now.leaves.items in
     let at = c.args.to.now.attempts in
-    let rest = plans_of c.in-Some.rest.now in
-    let all = ap (λ ts. table.firsts_from at (table.leaf_counts_of (plans_of ts))) c.in-Some.ensures.cases.0 ∙ firsts-then at c.in-Some.tree.now rest in
-    c.in_ok-add_trees.ensures.firsts
-    ∙ ap (λ xs. xs ++ table.firsts_from c.add_tree.new.to.attempts (table.leaf_counts_of rest)) c.in_ok-add_tree.ensures.firsts
-    ∙ ap (λ n. (old ++ table.firsts_from at (table.leaf_counts c.in-Some.tree.now)) ++ table.firsts_from n (table.leaf_counts_of rest)) c.in_ok-add_tree.ensures.attempts
-    ∙ append_assoc old (table.firsts_from at (table.leaf_counts c.in-Some.tree.now)) _
-    ∙ ap (λ ys. old ++ ys) (sym all)
+    c.in_ok-add_trees-in-Par.ensures.leaves
+    ∙ ap (λ ls. entries_of ls ++ entries_below at (plans_of c.as_slice.result.now)) c.in_ok-push-in-Par.ensures.items
+    ∙ ap (λ ps. entries_of (old ++ None ∷ []) ++ entries_below at (plans_of ps)) c.as_slice.ensures.value
+    ∙ root-then old (entries_below at (plans_of c.in-Par.plans.items))
+    ∙ ap (λ p. entries_of old ++ entries at p) (sym (ap plan_of c.in-Par.is) ∙ c.node.ensures)
+
+pub add_tree-returns-in_ok-add_trees-in-Sel-clause-leaves : goal.add_tree-returns-in_ok-add_trees-in-Sel-clause-leaves
+add_tree-returns-in_ok-add_trees-in-Sel-clause-leaves g t c =
+    let old = c.args.to.now.leaves.items in
+    let at = c.args.to.now.attempts in
+    c.in_ok-add_trees-in-Sel.ensures.leaves
+    ∙ ap (λ ls. entries_of ls ++ entries_below at (plans_of c.as_slice-in-Sel.result.now)) c.in_ok-push-in-Sel.ensures.items
+    ∙ ap (λ ps. entries_of (old ++ None ∷ []) ++ entries_below at (plans_of ps)) c.as_slice-in-Sel.ensures.value
+    ∙ root-then old (entries_below at (plans_of c.in-Sel.plans.items))
+    ∙ ap (λ p. entries_of old ++ entries at p) (sym (ap plan_of c.in-Sel.is) ∙ c.node.ensures)

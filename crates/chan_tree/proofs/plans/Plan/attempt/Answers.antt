@@ -1,29 +1,29 @@
 -- An attempt's place is below the number of all attempts.
-use Rattle.std.proofs.Common.{arith, length, ap, ◌∙◌}
-use Rattle.std.specs.Arc.{arc_value}
-use Rattle.std.proofs.lemmas.List.{length-map}
-use Rattle.chan_tree.proofs.Leaves.{same_chans}
-use Rattle.rpc_model.specs.declared.meaning.Meaning.TheVariants.{Attempt}
-use Rattle.chan_tree.specs.Table.{total}
-use Rattle.chan_tree.proofs.Tables.{place-short}
+use Rattle.std.proofs.Common.{arith, ap, sym, ◌∙◌}
+use Rattle.chan_tree.specs.Table.{entry_of, entries_of, entry_at}
+use Rattle.chan_tree.proofs.Tables.{place_short}
 use Rattle.chan_tree.proofs.Offsets.{few_attempts}
 use Rattle.chan_tree.proofs.plans.Plan.attempt.Goals as goal
 
+pub overflow_add-place : goal.overflow_add-place
+overflow_add-place g c =
+    let tree = c.self.inside.tree in
+    let same = ap entries_of c.as_slice.ensures.value ∙ c.self.invariant.leaves_are in
+    let here = ap (λ es. entry_at es c.args.node) (sym same) ∙ sym c.in_ok-leaf.ensures in
+    let place = place_short tree c.args.node c.args.attempt (entry_of c.in_ok-leaf.leaf.now) here c.if-attempt-leaf.false in
+    let whole = few_attempts tree in
+    let width = c.self.invariant.width_is in
+    let few = c.self.invariant.few in
+    omega (arith, place, whole, width, few)
+
 pub overflow_add-result : goal.overflow_add-result
 overflow_add-result g c =
-    let place = place-short c.as_slice.result.now c.as_slice-3.result.now (Attempt c.args.node c.args.attempt) c.in_ok-place.place c.in_ok-place.ensures.place in
-    let counts = ap total (c.as_slice-3.ensures.value ∙ c.self.invariant.counts_are) in
-    let whole = few_attempts c.self.inside.tree in
+    let tree = c.self.inside.tree in
+    let same = ap entries_of c.as_slice.ensures.value ∙ c.self.invariant.leaves_are in
+    let here = ap (λ es. entry_at es c.args.node) (sym same) ∙ sym c.in_ok-leaf.ensures in
+    let place = place_short tree c.args.node c.args.attempt (entry_of c.in_ok-leaf.leaf.now) here c.if-attempt-leaf.false in
+    let whole = few_attempts tree in
     let nodes = c.self.invariant.nodes_are in
     let width = c.self.invariant.width_is in
     let few = c.self.invariant.few in
-    omega (arith, place, counts, whole, nodes, width, few)
-
-pub attempt_of-requires-clause-chans : goal.attempt_of-requires-clause-chans
-attempt_of-requires-clause-chans g c =
-    let leaves = ap length (c.as_slice.ensures.value ∙ c.self.invariant.leaves_are) in
-    let chans = ap length c.self.invariant.chans_are in
-    let value = ap length c.as_slice-4.ensures.value in
-    let mapped = length-map c.self.inside.chans.items arc_value in
-    let same = same_chans c.self.inside.tree in
-    omega (arith, leaves, chans, value, mapped, same)
+    omega (arith, place, whole, nodes, width, few)
