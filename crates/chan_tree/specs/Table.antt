@@ -1,5 +1,6 @@
 -- The leaves of a plan by the numbers of its nodes, and places that rise.
-use Rattle.std.specs.Prelude.{ℕ, ◌+◌, ◌<◌, ◌≤◌, nat_lt, List, [], ◌∷◌, ◌++◌, length, map, get_or, slice_get, Option, None, Some, if◌then◌else◌}
+use Rattle.std.specs.Prelude.{ℕ, ◌+◌, ◌<◌, ◌≤◌, nat_lt, List, [], ◌∷◌, ◌++◌, length, map, get_or, slice_get, Option}
+use Rattle.std.specs.Prelude.{None, Some, if◌then◌else◌}
 use Rattle.std.specs.Arc.{arc_value}
 use Rattle.std.specs.Option.{option_map}
 use Rattle.rpc_model.specs.declared.chan.LeafChan.{LeafChan}
@@ -29,7 +30,8 @@ module _ {M G : Type 0} where
 
     pub entries_below : ℕ → Plans M G → List (Option Entry)
     entries_below first last_plan = []
-    entries_below first (plan_then plan plans) = entries first plan ++ entries_below (first + possible_attempts plan) plans
+    entries_below first (plan_then plan plans) =
+        entries first plan ++ entries_below (first + possible_attempts plan) plans
 
 -- the leaf at a number, none where no node or another one is there
 abbrev pub entry_or_none : Option (Option Entry) → Option Entry

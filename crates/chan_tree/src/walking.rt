@@ -1,6 +1,6 @@
 //! What is found of a plan without building it, from the channels: how large it is, and what its leaves may issue.
 
-ghost use Rattle.std.specs.Prelude.{◌≡◌, ◌+◌, ◌*◌, ◌<◌, ◌≤◌, ◌^◌, length, None};
+ghost use Rattle.std.specs.Prelude.{◌≡◌, ◌+◌, ◌*◌, ◌%◌, ◌<◌, ◌≤◌, ◌^◌, length, None};
 ghost use Rattle.rpc_model.specs.Plan.{tries};
 ghost use Rattle.chan_tree.specs.Sound.{AreBefore, AreSound};
 ghost use Rattle.chan_tree.specs.Measures.{numbers_of};
@@ -230,12 +230,33 @@ fn retry_among_tries<M, G>(
     let subs = sel.subs.list();
     let count = u64::from(sel.retry) + 1;
     let mut at = 0u64;
+    // The place of the try's sub: the number (call + try), counted round the subs.
+    let mut place = call as usize % subs.len();
     while at < count {
-        let found = retry_at(chans, try_at(subs, call, at), call, node, wanted);
+        let chan = subs[place];
+        place = place_behind(place, subs.len());
+        at += 1;
+        if let Chan::Leaf(leaf) = &chans[chan as usize] {
+            // A plain channel is one node.
+            if *node == wanted {
+                return Some(leaf.retry);
+            }
+            *node += 1;
+            continue;
+        }
+        let found = retry_at(chans, chan, call, node, wanted);
         if found.is_some() {
             return found;
         }
-        at += 1;
     }
     None
+}
+
+/// The place behind this one, counted round so many places.
+#[tactic(auto, using(crate::proofs::Turns::round_next, crate::proofs::Turns::round_end))]
+fn place_behind(place: usize, count: usize) -> usize
+    requires { place < count }
+    ensures { result ≡ (place + 1) % count }
+{
+    if place + 1 < count { place + 1 } else { 0 }
 }

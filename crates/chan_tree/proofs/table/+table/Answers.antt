@@ -32,7 +32,8 @@ add_tree-returns-in_ok-add_trees-in-Sel-clause-leaves g t c =
     let old = c.args.to.now.leaves.items in
     let at = c.args.to.now.attempts in
     c.in_ok-add_trees-in-Sel.ensures.leaves
-    ∙ ap (λ ls. entries_of ls ++ entries_below at (plans_of c.as_slice-in-Sel.result.now)) c.in_ok-push-in-Sel.ensures.items
+    ∙ ap
+    (λ ls. entries_of ls ++ entries_below at (plans_of c.as_slice-in-Sel.result.now)) c.in_ok-push-in-Sel.ensures.items
     ∙ ap (λ ps. entries_of (old ++ None ∷ []) ++ entries_below at (plans_of ps)) c.as_slice-in-Sel.ensures.value
     ∙ root-then old (entries_below at (plans_of c.in-Sel.plans.items))
     ∙ ap (λ p. entries_of old ++ entries at p) (sym (ap plan_of c.in-Sel.is) ∙ c.node.ensures)

@@ -1,13 +1,13 @@
 -- The leaf of a number is looked for in one plan after another.
-use Rattle.std.proofs.Common.{rules, arith, ◌≡◌, ◌+◌, ◌-◌, ◌%◌, ◌==◌, ◌<◌, ◌≤◌, ◌∷◌, slice_index, Some, None, length, drop, refl, ap, sym, ◌∙◌, subst}
+use Rattle.std.proofs.Common.{rules, arith, ◌≡◌, ◌+◌, ◌-◌, ◌%◌, ◌==◌, ◌<◌, ◌≤◌, ◌∷◌, slice_index_or, Some, None, length, drop, refl, ap, sym, ◌∙◌, subst}
 use Rattle.std.proofs.lemmas.Bool.Decides.{nat_tests}
 use Rattle.rpc_model.specs.declared.chan.Chan.TheVariants as chan
 use Rattle.rpc_model.specs.Plan.{tries_from}
 use Rattle.chan_tree.specs.Sound.{AreBefore}
 use Rattle.chan_tree.specs.Measures.{numbers_of}
-use Rattle.chan_tree.specs.Sizes.{nodes_at, node_behind, retry_among}
+use Rattle.chan_tree.specs.Sizes.{nodes_at, node_behind, retry_in, retry_among}
 use Rattle.chan_tree.proofs.Built.{item-at, sound-here, before-drop, numbers-drop, numbers-end, try-before}
-use Rattle.chan_tree.proofs.Turns.{tries_next, tries_end}
+use Rattle.chan_tree.proofs.Turns.{tries_end, round_more, turn-is, turn-next}
 use Rattle.chan_tree.proofs.Sizes.{retry-found, retry-next, retry-end, behind-next, behind-end, behind-more, none-if, leaf-nodes, leaf-retry, part-behind, part-retry, par-retry, par-behind}
 use Rattle.chan_tree.proofs.Sizes.{sel-retry, sel-behind}
 use Rattle.chan_tree.proofs.walking.+retry.Goals as goal
@@ -61,55 +61,6 @@ pub retry_among_subs-returns-clause-behind : goal.retry_among_subs-returns-claus
 retry_among_subs-returns-clause-behind g t c is =
     let none = numbers-end c.args.subs.now c.loop-sub.sub-index (let past = c.loop-sub-test.false in omega (arith, past)) in
     sym (behind-end c.args.chans.now c.args.call c.loop-sub.node) ∙ ap (λ xs. node_behind c.args.chans.now xs c.args.call c.loop-sub.node) (sym none) ∙ c.loop-sub.invariant.place
-
-pub retry_among_tries-retry_at-found-requires : goal.retry_among_tries-retry_at-found-requires
-retry_among_tries-retry_at-found-requires g t c κs within =
-    let subs = c.args.sel.now.subs in
-    let less = try-before c.args.number subs c.args.call c.loop-at.at c.requires.some c.requires.before in
-    let is = c.try_at.ensures ∙ ap (λ xs. slice_index xs ((c.args.call + c.loop-at.at) % length xs)) c.list-subs.ensures in
-    let there = c.requires.there in
-    let count = c.from-count.result + 1 in
-    let rest = tries_from subs c.args.call (c.loop-at.at + 1) (count - (c.loop-at.at + 1)) in
-    let split = tries_next subs c.args.call c.loop-at.at count c.loop-at-test.true ∙ ap (λ n. n ∷ rest) (sym is) in
-    let place = ap (λ xs. node_behind c.args.chans.now xs c.args.call c.loop-at.node) (sym split) ∙ c.loop-at.invariant.place in
-    let more = behind-more c.args.chans.now c.args.call c.try_at.result rest c.loop-at.node in
-    let few = c.requires.few in
-    (omega (arith, less, is, c.decreases), (search rules, (search rules, (c.requires.sound, (omega (arith, less, is, there), omega (arith, place, more, few))))))
-
-pub retry_among_tries-returns-then-is_some-clause-retry : goal.retry_among_tries-returns-then-is_some-clause-retry
-retry_among_tries-returns-then-is_some-clause-retry g t c =
-    let chans = c.args.chans.now in
-    let subs = c.args.sel.now.subs in
-    let count = c.from-count.result + 1 in
-    let rest = tries_from subs c.args.call (c.loop-at.at + 1) (count - (c.loop-at.at + 1)) in
-    let is = c.try_at.ensures ∙ ap (λ xs. slice_index xs ((c.args.call + c.loop-at.at) % length xs)) c.list-subs.ensures in
-    let split = tries_next subs c.args.call c.loop-at.at count c.loop-at-test.true ∙ ap (λ n. n ∷ rest) (sym is) in
-    retry-found chans c.args.call c.try_at.result rest c.loop-at.node c.args.wanted c.retry_at-found.result c.retry_at-found.ensures.retry (sym c.is_some.ensures ∙ c.if-is_some.true)
-    ∙ ap (λ xs. retry_among chans xs c.args.call c.loop-at.node c.args.wanted) (sym split) ∙ c.loop-at.invariant.none
-
-pub retry_among_tries-loop-at-preserved : goal.retry_among_tries-loop-at-preserved
-retry_among_tries-loop-at-preserved g t c =
-    let chans = c.args.chans.now in
-    let subs = c.args.sel.now.subs in
-    let count = c.from-count.result + 1 in
-    let rest = tries_from subs c.args.call (c.loop-at.at + 1) (count - (c.loop-at.at + 1)) in
-    let is = c.try_at.ensures ∙ ap (λ xs. slice_index xs ((c.args.call + c.loop-at.at) % length xs)) c.list-subs.ensures in
-    let split = tries_next subs c.args.call c.loop-at.at count c.loop-at-test.true ∙ ap (λ n. n ∷ rest) (sym is) in
-    let none = none-if c.retry_at-found.result (sym c.is_some.ensures ∙ c.if-is_some.false) in
-    let node = c.retry_at-found.ensures.behind none in
-    let test = c.loop-at-test.true in
-    record {
-      place =
-          ap (node_behind chans rest c.args.call) node ∙ sym (behind-next chans c.args.call c.try_at.result rest c.loop-at.node)
-          ∙ ap (λ xs. node_behind chans xs c.args.call c.loop-at.node) (sym split) ∙ c.loop-at.invariant.place;
-      none =
-          ap (λ n. retry_among chans rest c.args.call n c.args.wanted) node
-          ∙ sym (retry-next chans c.args.call c.try_at.result rest c.loop-at.node c.args.wanted (sym none ∙ c.retry_at-found.ensures.retry))
-          ∙ ap (λ xs. retry_among chans xs c.args.call c.loop-at.node c.args.wanted) (sym split) ∙ c.loop-at.invariant.none;
-      within = omega (arith, test);
-      count = c.loop-at.invariant.count;
-      subs = c.loop-at.invariant.subs;
-    }
 
 pub retry_among_tries-returns-clause-retry : goal.retry_among_tries-returns-clause-retry
 retry_among_tries-returns-clause-retry g t c =
@@ -281,4 +232,166 @@ retry_among_subs-loop-sub-preserved-in-Leaf g t c =
           ap (λ n. retry_among chans rest c.args.call n c.args.wanted) node
           ∙ sym (retry-next chans c.args.call item.chan rest c.loop-sub.node c.args.wanted (sym none))
           ∙ ap (λ xs. retry_among chans xs c.args.call c.loop-sub.node c.args.wanted) (sym split) ∙ c.loop-sub.invariant.none;
+    }
+
+pub retry_among_tries-retry_at-found-requires : goal.retry_among_tries-retry_at-found-requires
+retry_among_tries-retry_at-found-requires g t c κs within =
+    let chans = c.args.chans.now in
+    let subs = c.args.sel.now.subs in
+    let list = c.list-subs.result.now in
+    let at = c.loop-at.at in
+    let place = c.loop-at.place in
+    let tried = slice_index_or list place 0 in
+    let count = c.from-count.result + 1 in
+    let rest = tries_from subs c.args.call (at + 1) (count - (at + 1)) in
+    let turn = c.loop-at.invariant.turn in
+    let split = turn-next subs list c.args.call at place count c.list-subs.ensures turn c.loop-at-test.true in
+    let less = try-before c.args.number subs c.args.call at c.requires.some c.requires.before in
+    let is = turn-is subs list c.args.call at place c.list-subs.ensures turn in
+    let there = c.requires.there in
+    let all = ap (λ xs. node_behind chans xs c.args.call c.loop-at.node) (sym split) ∙ c.loop-at.invariant.place in
+    let more = behind-more chans c.args.call tried rest c.loop-at.node in
+    let few = c.requires.few in (
+      omega (arith, less, is, c.decreases),
+      (search rules, (search rules, (c.requires.sound, (omega (arith, less, is, there), omega (arith, all, more, few))))),
+    )
+
+pub retry_among_tries-returns-then-is_some-clause-retry : goal.retry_among_tries-returns-then-is_some-clause-retry
+retry_among_tries-returns-then-is_some-clause-retry g t c =
+    let chans = c.args.chans.now in
+    let subs = c.args.sel.now.subs in
+    let list = c.list-subs.result.now in
+    let at = c.loop-at.at in
+    let place = c.loop-at.place in
+    let tried = slice_index_or list place 0 in
+    let count = c.from-count.result + 1 in
+    let rest = tries_from subs c.args.call (at + 1) (count - (at + 1)) in
+    let turn = c.loop-at.invariant.turn in
+    let split = turn-next subs list c.args.call at place count c.list-subs.ensures turn c.loop-at-test.true in
+    retry-found chans c.args.call tried rest c.loop-at.node c.args.wanted c.retry_at-found.result
+    c.retry_at-found.ensures.retry (sym c.is_some.ensures ∙ c.if-is_some.true)
+    ∙ ap (λ xs. retry_among chans xs c.args.call c.loop-at.node c.args.wanted) (sym split) ∙ c.loop-at.invariant.none
+
+pub retry_among_tries-loop-at-preserved : goal.retry_among_tries-loop-at-preserved
+retry_among_tries-loop-at-preserved g t c =
+    let chans = c.args.chans.now in
+    let subs = c.args.sel.now.subs in
+    let list = c.list-subs.result.now in
+    let at = c.loop-at.at in
+    let place = c.loop-at.place in
+    let tried = slice_index_or list place 0 in
+    let count = c.from-count.result + 1 in
+    let rest = tries_from subs c.args.call (at + 1) (count - (at + 1)) in
+    let turn = c.loop-at.invariant.turn in
+    let split = turn-next subs list c.args.call at place count c.list-subs.ensures turn c.loop-at-test.true in
+    let none = none-if c.retry_at-found.result (sym c.is_some.ensures ∙ c.if-is_some.false) in
+    let node = c.retry_at-found.ensures.behind none in
+    let test = c.loop-at-test.true in
+    record {
+      place =
+          ap (node_behind chans rest c.args.call) node
+          ∙ sym (behind-next chans c.args.call tried rest c.loop-at.node)
+          ∙ ap (λ xs. node_behind chans xs c.args.call c.loop-at.node) (sym split) ∙ c.loop-at.invariant.place;
+      none =
+          ap (λ n. retry_among chans rest c.args.call n c.args.wanted) node
+          ∙ sym (retry-next chans c.args.call tried rest c.loop-at.node c.args.wanted (sym none ∙ c.retry_at-found.ensures.retry))
+          ∙ ap (λ xs. retry_among chans xs c.args.call c.loop-at.node c.args.wanted) (sym split)
+          ∙ c.loop-at.invariant.none;
+      within = omega (arith, test);
+      count = c.loop-at.invariant.count;
+      subs = c.loop-at.invariant.subs;
+      turn =
+          c.place_behind-place.ensures ∙ ap (λ xs. (place + 1) % length xs) c.list-subs.ensures
+          ∙ round_more c.args.call at place (length subs) turn;
+    }
+
+pub retry_among_tries-returns-then-node-wanted-clause-retry : goal.retry_among_tries-returns-then-node-wanted-clause-retry
+retry_among_tries-returns-then-node-wanted-clause-retry g t c =
+    let chans = c.args.chans.now in
+    let subs = c.args.sel.now.subs in
+    let list = c.list-subs.result.now in
+    let at = c.loop-at.at in
+    let place = c.loop-at.place in
+    let tried = slice_index_or list place 0 in
+    let count = c.from-count.result + 1 in
+    let rest = tries_from subs c.args.call (at + 1) (count - (at + 1)) in
+    let turn = c.loop-at.invariant.turn in
+    let split = turn-next subs list c.args.call at place count c.list-subs.ensures turn c.loop-at-test.true in
+    let less = try-before c.args.number subs c.args.call at c.requires.some c.requires.before in
+    let is = turn-is subs list c.args.call at place c.list-subs.ensures turn in
+    let there = c.requires.there in
+    let known : tried < length chans = omega (arith, less, is, there) in
+    let here = item-at chans tried c.index-chans-chan.result known c.index-chans-chan.is ∙ ap Some c.in-Leaf.is in
+    let test = c.if-node-wanted.true in
+    let same : (c.loop-at.node == c.args.wanted) ≡ Rattle.std.proofs.Common.true = grind (arith, nat_tests) in
+    let found =
+    leaf-retry chans c.args.call c.requires.sound tried known c.in-Leaf.leaf c.loop-at.node c.args.wanted here
+    ∙ rw same refl in
+    retry-found chans c.args.call tried rest c.loop-at.node c.args.wanted (Some c.in-Leaf.leaf.retry) (sym found) refl
+    ∙ ap (λ xs. retry_among chans xs c.args.call c.loop-at.node c.args.wanted) (sym split) ∙ c.loop-at.invariant.none
+
+pub retry_among_tries-overflow_add-node : goal.retry_among_tries-overflow_add-node
+retry_among_tries-overflow_add-node g t c =
+    let chans = c.args.chans.now in
+    let subs = c.args.sel.now.subs in
+    let list = c.list-subs.result.now in
+    let at = c.loop-at.at in
+    let place = c.loop-at.place in
+    let tried = slice_index_or list place 0 in
+    let count = c.from-count.result + 1 in
+    let rest = tries_from subs c.args.call (at + 1) (count - (at + 1)) in
+    let turn = c.loop-at.invariant.turn in
+    let split = turn-next subs list c.args.call at place count c.list-subs.ensures turn c.loop-at-test.true in
+    let less = try-before c.args.number subs c.args.call at c.requires.some c.requires.before in
+    let is = turn-is subs list c.args.call at place c.list-subs.ensures turn in
+    let there = c.requires.there in
+    let known : tried < length chans = omega (arith, less, is, there) in
+    let here = item-at chans tried c.index-chans-chan.result known c.index-chans-chan.is ∙ ap Some c.in-Leaf.is in
+    let one = leaf-nodes chans c.args.call c.requires.sound tried known c.in-Leaf.leaf here in
+    let all = ap (λ xs. node_behind chans xs c.args.call c.loop-at.node) (sym split) ∙ c.loop-at.invariant.place in
+    let more = behind-more chans c.args.call tried rest c.loop-at.node in
+    let few = c.requires.few in
+    omega (arith, one, all, more, few)
+
+pub retry_among_tries-loop-at-preserved-in-Leaf : goal.retry_among_tries-loop-at-preserved-in-Leaf
+retry_among_tries-loop-at-preserved-in-Leaf g t c =
+    let chans = c.args.chans.now in
+    let subs = c.args.sel.now.subs in
+    let list = c.list-subs.result.now in
+    let at = c.loop-at.at in
+    let place = c.loop-at.place in
+    let tried = slice_index_or list place 0 in
+    let count = c.from-count.result + 1 in
+    let rest = tries_from subs c.args.call (at + 1) (count - (at + 1)) in
+    let turn = c.loop-at.invariant.turn in
+    let split = turn-next subs list c.args.call at place count c.list-subs.ensures turn c.loop-at-test.true in
+    let less = try-before c.args.number subs c.args.call at c.requires.some c.requires.before in
+    let is = turn-is subs list c.args.call at place c.list-subs.ensures turn in
+    let there = c.requires.there in
+    let known : tried < length chans = omega (arith, less, is, there) in
+    let here = item-at chans tried c.index-chans-chan.result known c.index-chans-chan.is ∙ ap Some c.in-Leaf.is in
+    let one = leaf-nodes chans c.args.call c.requires.sound tried known c.in-Leaf.leaf here in
+    let node : c.loop-at.node + 1 ≡ c.loop-at.node + nodes_at chans c.args.call tried = omega (arith, one) in
+    let passed = c.if-node-wanted.false in
+    let other : (c.loop-at.node == c.args.wanted) ≡ Rattle.std.proofs.Common.false = grind (arith, nat_tests) in
+    let none : retry_in chans tried c.args.call c.loop-at.node c.args.wanted ≡ None =
+    leaf-retry chans c.args.call c.requires.sound tried known c.in-Leaf.leaf c.loop-at.node c.args.wanted here
+    ∙ rw other refl in
+    let test = c.loop-at-test.true in
+    record {
+      place =
+          ap (node_behind chans rest c.args.call) node
+          ∙ sym (behind-next chans c.args.call tried rest c.loop-at.node)
+          ∙ ap (λ xs. node_behind chans xs c.args.call c.loop-at.node) (sym split) ∙ c.loop-at.invariant.place;
+      none =
+          ap (λ n. retry_among chans rest c.args.call n c.args.wanted) node
+          ∙ sym (retry-next chans c.args.call tried rest c.loop-at.node c.args.wanted (sym none))
+          ∙ ap (λ xs. retry_among chans xs c.args.call c.loop-at.node c.args.wanted) (sym split)
+          ∙ c.loop-at.invariant.none;
+      within = omega (arith, test);
+      count = c.loop-at.invariant.count;
+      subs = c.loop-at.invariant.subs;
+      turn =
+          c.place_behind-place.ensures ∙ ap (λ xs. (place + 1) % length xs) c.list-subs.ensures
+          ∙ round_more c.args.call at place (length subs) turn;
     }

@@ -1,5 +1,5 @@
 -- The plans before this one have no such leaf.
-use Rattle.std.proofs.Common.{◌≡◌, ◌+◌, ◌*◌, ◌-◌, ◌≤◌, drop}
+use Rattle.std.proofs.Common.{◌≡◌, ◌+◌, ◌*◌, ◌-◌, ◌%◌, ◌≤◌, length, drop}
 use Rattle.rpc_model.specs.Plan.{tries, tries_from}
 use Rattle.chan_tree.specs.Measures.{numbers_of}
 use Rattle.chan_tree.specs.Sizes.{node_behind, retry_among}
@@ -27,6 +27,7 @@ invariant-retry_among_tries-loop-at g l = record {
   within : l.at ≤ l.count;
   count : l.count ≡ l.sel.retry + 1;
   subs : l.subs ≡ l.sel.subs;
+  turn : l.place ≡ (l.call + l.at) % length l.sel.subs;
 }
 
 abbrev pub decreases-retry_among_tries-loop-at : goal.decreases-retry_among_tries-loop-at

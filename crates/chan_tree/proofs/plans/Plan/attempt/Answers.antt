@@ -10,7 +10,8 @@ overflow_add-place g c =
     let tree = c.self.inside.tree in
     let same = ap entries_of c.as_slice.ensures.value ∙ c.self.invariant.leaves_are in
     let here = ap (λ es. entry_at es c.args.node) (sym same) ∙ sym c.in_ok-leaf.ensures in
-    let place = place_short tree c.args.node c.args.attempt (entry_of c.in_ok-leaf.leaf.now) here c.if-attempt-leaf.false in
+    let place = place_short tree c.args.node c.args.attempt
+    (entry_of c.in_ok-leaf.leaf.now) here c.if-attempt-leaf.false in
     let whole = few_attempts tree in
     let width = c.self.invariant.width_is in
     let few = c.self.invariant.few in
@@ -21,7 +22,8 @@ overflow_add-result g c =
     let tree = c.self.inside.tree in
     let same = ap entries_of c.as_slice.ensures.value ∙ c.self.invariant.leaves_are in
     let here = ap (λ es. entry_at es c.args.node) (sym same) ∙ sym c.in_ok-leaf.ensures in
-    let place = place_short tree c.args.node c.args.attempt (entry_of c.in_ok-leaf.leaf.now) here c.if-attempt-leaf.false in
+    let place = place_short tree c.args.node c.args.attempt
+    (entry_of c.in_ok-leaf.leaf.now) here c.if-attempt-leaf.false in
     let whole = few_attempts tree in
     let nodes = c.self.invariant.nodes_are in
     let width = c.self.invariant.width_is in
