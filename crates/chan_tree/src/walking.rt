@@ -192,20 +192,24 @@ fn retry_among_subs<M, G>(
     ensures retry { result ≡ retry_among chans.now (numbers_of subs.now) call node.old wanted }
     ensures behind { result ≡ None → node.new ≡ node_behind chans.now (numbers_of subs.now) call node.old }
 {
+    let mut next = *node;
     for sub in subs {
         if let Chan::Leaf(leaf) = &chans[sub.chan as usize] {
             // A plain channel is one node.
-            if *node == wanted {
+            if next == wanted {
                 return Some(leaf.retry);
             }
-            *node += 1;
+            next += 1;
             continue;
         }
+        *node = next;
         let found = retry_at(chans, sub.chan, call, node, wanted);
         if found.is_some() {
             return found;
         }
+        next = *node;
     }
+    *node = next;
     None
 }
 
@@ -229,6 +233,7 @@ fn retry_among_tries<M, G>(
 {
     let subs = sel.subs.list();
     let count = u64::from(sel.retry) + 1;
+    let mut next = *node;
     let mut at = 0u64;
     // The place of the try's sub: the number (call + try), counted round the subs.
     let mut place = call as usize % subs.len();
@@ -238,17 +243,20 @@ fn retry_among_tries<M, G>(
         at += 1;
         if let Chan::Leaf(leaf) = &chans[chan as usize] {
             // A plain channel is one node.
-            if *node == wanted {
+            if next == wanted {
                 return Some(leaf.retry);
             }
-            *node += 1;
+            next += 1;
             continue;
         }
+        *node = next;
         let found = retry_at(chans, chan, call, node, wanted);
         if found.is_some() {
             return found;
         }
+        next = *node;
     }
+    *node = next;
     None
 }
 

@@ -19,8 +19,8 @@ retry_among_subs-retry_at-found-requires g t c κs within =
     let there = c.requires.there in
     let rest = numbers_of (drop (c.loop-sub.sub-index + 1) c.args.subs.now) in
     let split = numbers-drop c.args.subs.now c.loop-sub.sub-index c.sub-item.result c.loop-sub-test.true ∙ ap (λ s. s.chan ∷ rest) (sym c.sub-item.is) in
-    let place = ap (λ xs. node_behind c.args.chans.now xs c.args.call c.loop-sub.node) (sym split) ∙ c.loop-sub.invariant.place in
-    let more = behind-more c.args.chans.now c.args.call c.sub-item.result.chan rest c.loop-sub.node in
+    let place = ap (λ xs. node_behind c.args.chans.now xs c.args.call c.loop-sub.next) (sym split) ∙ c.loop-sub.invariant.place in
+    let more = behind-more c.args.chans.now c.args.call c.sub-item.result.chan rest c.loop-sub.next in
     let few = c.requires.few in
     (omega (arith, less, same, c.decreases), (search rules, (search rules, (c.requires.sound, (omega (arith, less, same, there), omega (arith, place, more, few))))))
 
@@ -30,8 +30,8 @@ retry_among_subs-returns-then-is_some-clause-retry g t c =
     let item = c.sub-item.result in
     let rest = numbers_of (drop (c.loop-sub.sub-index + 1) c.args.subs.now) in
     let split = numbers-drop c.args.subs.now c.loop-sub.sub-index item c.loop-sub-test.true ∙ ap (λ s. s.chan ∷ rest) (sym c.sub-item.is) in
-    retry-found chans c.args.call item.chan rest c.loop-sub.node c.args.wanted c.retry_at-found.result c.retry_at-found.ensures.retry (sym c.is_some.ensures ∙ c.if-is_some.true)
-    ∙ ap (λ xs. retry_among chans xs c.args.call c.loop-sub.node c.args.wanted) (sym split) ∙ c.loop-sub.invariant.none
+    retry-found chans c.args.call item.chan rest c.loop-sub.next c.args.wanted c.retry_at-found.result c.retry_at-found.ensures.retry (sym c.is_some.ensures ∙ c.if-is_some.true)
+    ∙ ap (λ xs. retry_among chans xs c.args.call c.loop-sub.next c.args.wanted) (sym split) ∙ c.loop-sub.invariant.none
 
 pub retry_among_subs-loop-sub-preserved : goal.retry_among_subs-loop-sub-preserved
 retry_among_subs-loop-sub-preserved g t c =
@@ -43,37 +43,37 @@ retry_among_subs-loop-sub-preserved g t c =
     let node = c.retry_at-found.ensures.behind none in
     record {
       place =
-          ap (node_behind chans rest c.args.call) node ∙ sym (behind-next chans c.args.call item.chan rest c.loop-sub.node)
-          ∙ ap (λ xs. node_behind chans xs c.args.call c.loop-sub.node) (sym split) ∙ c.loop-sub.invariant.place;
+          ap (node_behind chans rest c.args.call) node ∙ sym (behind-next chans c.args.call item.chan rest c.loop-sub.next)
+          ∙ ap (λ xs. node_behind chans xs c.args.call c.loop-sub.next) (sym split) ∙ c.loop-sub.invariant.place;
       none =
           ap (λ n. retry_among chans rest c.args.call n c.args.wanted) node
-          ∙ sym (retry-next chans c.args.call item.chan rest c.loop-sub.node c.args.wanted (sym none ∙ c.retry_at-found.ensures.retry))
-          ∙ ap (λ xs. retry_among chans xs c.args.call c.loop-sub.node c.args.wanted) (sym split) ∙ c.loop-sub.invariant.none;
+          ∙ sym (retry-next chans c.args.call item.chan rest c.loop-sub.next c.args.wanted (sym none ∙ c.retry_at-found.ensures.retry))
+          ∙ ap (λ xs. retry_among chans xs c.args.call c.loop-sub.next c.args.wanted) (sym split) ∙ c.loop-sub.invariant.none;
     }
 
 pub retry_among_subs-returns-clause-retry : goal.retry_among_subs-returns-clause-retry
 retry_among_subs-returns-clause-retry g t c =
     let none = numbers-end c.args.subs.now c.loop-sub.sub-index (let past = c.loop-sub-test.false in omega (arith, past)) in
-    sym (retry-end c.args.chans.now c.args.call c.loop-sub.node c.args.wanted) ∙ ap (λ xs. retry_among c.args.chans.now xs c.args.call c.loop-sub.node c.args.wanted) (sym none)
+    sym (retry-end c.args.chans.now c.args.call c.loop-sub.next c.args.wanted) ∙ ap (λ xs. retry_among c.args.chans.now xs c.args.call c.loop-sub.next c.args.wanted) (sym none)
     ∙ c.loop-sub.invariant.none
 
 pub retry_among_subs-returns-clause-behind : goal.retry_among_subs-returns-clause-behind
 retry_among_subs-returns-clause-behind g t c is =
     let none = numbers-end c.args.subs.now c.loop-sub.sub-index (let past = c.loop-sub-test.false in omega (arith, past)) in
-    sym (behind-end c.args.chans.now c.args.call c.loop-sub.node) ∙ ap (λ xs. node_behind c.args.chans.now xs c.args.call c.loop-sub.node) (sym none) ∙ c.loop-sub.invariant.place
+    sym (behind-end c.args.chans.now c.args.call c.loop-sub.next) ∙ ap (λ xs. node_behind c.args.chans.now xs c.args.call c.loop-sub.next) (sym none) ∙ c.loop-sub.invariant.place
 
 pub retry_among_tries-returns-clause-retry : goal.retry_among_tries-returns-clause-retry
 retry_among_tries-returns-clause-retry g t c =
     let count = c.from-count.result + 1 in
     let none = tries_end c.args.sel.now.subs c.args.call c.loop-at.at count (let past = c.loop-at-test.false in omega (arith, past)) in
-    sym (retry-end c.args.chans.now c.args.call c.loop-at.node c.args.wanted) ∙ ap (λ xs. retry_among c.args.chans.now xs c.args.call c.loop-at.node c.args.wanted) (sym none)
+    sym (retry-end c.args.chans.now c.args.call c.loop-at.next c.args.wanted) ∙ ap (λ xs. retry_among c.args.chans.now xs c.args.call c.loop-at.next c.args.wanted) (sym none)
     ∙ c.loop-at.invariant.none
 
 pub retry_among_tries-returns-clause-behind : goal.retry_among_tries-returns-clause-behind
 retry_among_tries-returns-clause-behind g t c is =
     let count = c.from-count.result + 1 in
     let none = tries_end c.args.sel.now.subs c.args.call c.loop-at.at count (let past = c.loop-at-test.false in omega (arith, past)) in
-    sym (behind-end c.args.chans.now c.args.call c.loop-at.node) ∙ ap (λ xs. node_behind c.args.chans.now xs c.args.call c.loop-at.node) (sym none) ∙ c.loop-at.invariant.place
+    sym (behind-end c.args.chans.now c.args.call c.loop-at.next) ∙ ap (λ xs. node_behind c.args.chans.now xs c.args.call c.loop-at.next) (sym none) ∙ c.loop-at.invariant.place
 
 pub retry_at-retry_among_subs-requires : goal.retry_at-retry_among_subs-requires
 retry_at-retry_among_subs-requires g t c κs within =
@@ -174,8 +174,8 @@ retry_among_subs-bounds-chans-sub g t c =
     let there = c.requires.there in
     omega (arith, less, same, there)
 
-pub retry_among_subs-returns-then-node-wanted-clause-retry : goal.retry_among_subs-returns-then-node-wanted-clause-retry
-retry_among_subs-returns-then-node-wanted-clause-retry g t c =
+pub retry_among_subs-returns-then-next-wanted-clause-retry : goal.retry_among_subs-returns-then-next-wanted-clause-retry
+retry_among_subs-returns-then-next-wanted-clause-retry g t c =
     let chans = c.args.chans.now in
     let item = c.sub-item.result in
     let less = before-drop c.args.number c.args.subs.now c.loop-sub.sub-index item c.requires.before c.loop-sub-test.true in
@@ -185,14 +185,14 @@ retry_among_subs-returns-then-node-wanted-clause-retry g t c =
     let at = item-at chans item.chan c.index-chans-sub.result known c.index-chans-sub.is ∙ ap Some c.in-Leaf.is in
     let rest = numbers_of (drop (c.loop-sub.sub-index + 1) c.args.subs.now) in
     let split = numbers-drop c.args.subs.now c.loop-sub.sub-index item c.loop-sub-test.true ∙ ap (λ s. s.chan ∷ rest) (sym c.sub-item.is) in
-    let test = c.if-node-wanted.true in
-    let here : (c.loop-sub.node == c.args.wanted) ≡ Rattle.std.proofs.Common.true = grind (arith, nat_tests) in
-    let found = leaf-retry chans c.args.call c.requires.sound item.chan known c.in-Leaf.leaf c.loop-sub.node c.args.wanted at ∙ rw here refl in
-    retry-found chans c.args.call item.chan rest c.loop-sub.node c.args.wanted (Some c.in-Leaf.leaf.retry) (sym found) refl
-    ∙ ap (λ xs. retry_among chans xs c.args.call c.loop-sub.node c.args.wanted) (sym split) ∙ c.loop-sub.invariant.none
+    let test = c.if-next-wanted.true in
+    let here : (c.loop-sub.next == c.args.wanted) ≡ Rattle.std.proofs.Common.true = grind (arith, nat_tests) in
+    let found = leaf-retry chans c.args.call c.requires.sound item.chan known c.in-Leaf.leaf c.loop-sub.next c.args.wanted at ∙ rw here refl in
+    retry-found chans c.args.call item.chan rest c.loop-sub.next c.args.wanted (Some c.in-Leaf.leaf.retry) (sym found) refl
+    ∙ ap (λ xs. retry_among chans xs c.args.call c.loop-sub.next c.args.wanted) (sym split) ∙ c.loop-sub.invariant.none
 
-pub retry_among_subs-overflow_add-node : goal.retry_among_subs-overflow_add-node
-retry_among_subs-overflow_add-node g t c =
+pub retry_among_subs-overflow_add-next : goal.retry_among_subs-overflow_add-next
+retry_among_subs-overflow_add-next g t c =
     let chans = c.args.chans.now in
     let item = c.sub-item.result in
     let less = before-drop c.args.number c.args.subs.now c.loop-sub.sub-index item c.requires.before c.loop-sub-test.true in
@@ -203,8 +203,8 @@ retry_among_subs-overflow_add-node g t c =
     let one = leaf-nodes chans c.args.call c.requires.sound item.chan known c.in-Leaf.leaf at in
     let rest = numbers_of (drop (c.loop-sub.sub-index + 1) c.args.subs.now) in
     let split = numbers-drop c.args.subs.now c.loop-sub.sub-index item c.loop-sub-test.true ∙ ap (λ s. s.chan ∷ rest) (sym c.sub-item.is) in
-    let place = ap (λ xs. node_behind chans xs c.args.call c.loop-sub.node) (sym split) ∙ c.loop-sub.invariant.place in
-    let more = behind-more chans c.args.call item.chan rest c.loop-sub.node in
+    let place = ap (λ xs. node_behind chans xs c.args.call c.loop-sub.next) (sym split) ∙ c.loop-sub.invariant.place in
+    let more = behind-more chans c.args.call item.chan rest c.loop-sub.next in
     let few = c.requires.few in
     omega (arith, one, place, more, few)
 
@@ -218,20 +218,20 @@ retry_among_subs-loop-sub-preserved-in-Leaf g t c =
     let known : item.chan < length chans = omega (arith, less, same, there) in
     let at = item-at chans item.chan c.index-chans-sub.result known c.index-chans-sub.is ∙ ap Some c.in-Leaf.is in
     let one = leaf-nodes chans c.args.call c.requires.sound item.chan known c.in-Leaf.leaf at in
-    let node : c.loop-sub.node + 1 ≡ c.loop-sub.node + nodes_at chans c.args.call item.chan = omega (arith, one) in
+    let node : c.loop-sub.next + 1 ≡ c.loop-sub.next + nodes_at chans c.args.call item.chan = omega (arith, one) in
     let rest = numbers_of (drop (c.loop-sub.sub-index + 1) c.args.subs.now) in
     let split = numbers-drop c.args.subs.now c.loop-sub.sub-index item c.loop-sub-test.true ∙ ap (λ s. s.chan ∷ rest) (sym c.sub-item.is) in
-    let test = c.if-node-wanted.false in
-    let here : (c.loop-sub.node == c.args.wanted) ≡ Rattle.std.proofs.Common.false = grind (arith, nat_tests) in
-    let none = leaf-retry chans c.args.call c.requires.sound item.chan known c.in-Leaf.leaf c.loop-sub.node c.args.wanted at ∙ rw here refl in
+    let test = c.if-next-wanted.false in
+    let here : (c.loop-sub.next == c.args.wanted) ≡ Rattle.std.proofs.Common.false = grind (arith, nat_tests) in
+    let none = leaf-retry chans c.args.call c.requires.sound item.chan known c.in-Leaf.leaf c.loop-sub.next c.args.wanted at ∙ rw here refl in
     record {
       place =
-          ap (node_behind chans rest c.args.call) node ∙ sym (behind-next chans c.args.call item.chan rest c.loop-sub.node)
-          ∙ ap (λ xs. node_behind chans xs c.args.call c.loop-sub.node) (sym split) ∙ c.loop-sub.invariant.place;
+          ap (node_behind chans rest c.args.call) node ∙ sym (behind-next chans c.args.call item.chan rest c.loop-sub.next)
+          ∙ ap (λ xs. node_behind chans xs c.args.call c.loop-sub.next) (sym split) ∙ c.loop-sub.invariant.place;
       none =
           ap (λ n. retry_among chans rest c.args.call n c.args.wanted) node
-          ∙ sym (retry-next chans c.args.call item.chan rest c.loop-sub.node c.args.wanted (sym none))
-          ∙ ap (λ xs. retry_among chans xs c.args.call c.loop-sub.node c.args.wanted) (sym split) ∙ c.loop-sub.invariant.none;
+          ∙ sym (retry-next chans c.args.call item.chan rest c.loop-sub.next c.args.wanted (sym none))
+          ∙ ap (λ xs. retry_among chans xs c.args.call c.loop-sub.next c.args.wanted) (sym split) ∙ c.loop-sub.invariant.none;
     }
 
 pub retry_among_tries-retry_at-found-requires : goal.retry_among_tries-retry_at-found-requires
@@ -249,8 +249,8 @@ retry_among_tries-retry_at-found-requires g t c κs within =
     let less = try-before c.args.number subs c.args.call at c.requires.some c.requires.before in
     let is = turn-is subs list c.args.call at place c.list-subs.ensures turn in
     let there = c.requires.there in
-    let all = ap (λ xs. node_behind chans xs c.args.call c.loop-at.node) (sym split) ∙ c.loop-at.invariant.place in
-    let more = behind-more chans c.args.call tried rest c.loop-at.node in
+    let all = ap (λ xs. node_behind chans xs c.args.call c.loop-at.next) (sym split) ∙ c.loop-at.invariant.place in
+    let more = behind-more chans c.args.call tried rest c.loop-at.next in
     let few = c.requires.few in (
       omega (arith, less, is, c.decreases),
       (search rules, (search rules, (c.requires.sound, (omega (arith, less, is, there), omega (arith, all, more, few))))),
@@ -268,9 +268,9 @@ retry_among_tries-returns-then-is_some-clause-retry g t c =
     let rest = tries_from subs c.args.call (at + 1) (count - (at + 1)) in
     let turn = c.loop-at.invariant.turn in
     let split = turn-next subs list c.args.call at place count c.list-subs.ensures turn c.loop-at-test.true in
-    retry-found chans c.args.call tried rest c.loop-at.node c.args.wanted c.retry_at-found.result
+    retry-found chans c.args.call tried rest c.loop-at.next c.args.wanted c.retry_at-found.result
     c.retry_at-found.ensures.retry (sym c.is_some.ensures ∙ c.if-is_some.true)
-    ∙ ap (λ xs. retry_among chans xs c.args.call c.loop-at.node c.args.wanted) (sym split) ∙ c.loop-at.invariant.none
+    ∙ ap (λ xs. retry_among chans xs c.args.call c.loop-at.next c.args.wanted) (sym split) ∙ c.loop-at.invariant.none
 
 pub retry_among_tries-loop-at-preserved : goal.retry_among_tries-loop-at-preserved
 retry_among_tries-loop-at-preserved g t c =
@@ -290,12 +290,12 @@ retry_among_tries-loop-at-preserved g t c =
     record {
       place =
           ap (node_behind chans rest c.args.call) node
-          ∙ sym (behind-next chans c.args.call tried rest c.loop-at.node)
-          ∙ ap (λ xs. node_behind chans xs c.args.call c.loop-at.node) (sym split) ∙ c.loop-at.invariant.place;
+          ∙ sym (behind-next chans c.args.call tried rest c.loop-at.next)
+          ∙ ap (λ xs. node_behind chans xs c.args.call c.loop-at.next) (sym split) ∙ c.loop-at.invariant.place;
       none =
           ap (λ n. retry_among chans rest c.args.call n c.args.wanted) node
-          ∙ sym (retry-next chans c.args.call tried rest c.loop-at.node c.args.wanted (sym none ∙ c.retry_at-found.ensures.retry))
-          ∙ ap (λ xs. retry_among chans xs c.args.call c.loop-at.node c.args.wanted) (sym split)
+          ∙ sym (retry-next chans c.args.call tried rest c.loop-at.next c.args.wanted (sym none ∙ c.retry_at-found.ensures.retry))
+          ∙ ap (λ xs. retry_among chans xs c.args.call c.loop-at.next c.args.wanted) (sym split)
           ∙ c.loop-at.invariant.none;
       within = omega (arith, test);
       count = c.loop-at.invariant.count;
@@ -305,8 +305,8 @@ retry_among_tries-loop-at-preserved g t c =
           ∙ round_more c.args.call at place (length subs) turn;
     }
 
-pub retry_among_tries-returns-then-node-wanted-clause-retry : goal.retry_among_tries-returns-then-node-wanted-clause-retry
-retry_among_tries-returns-then-node-wanted-clause-retry g t c =
+pub retry_among_tries-returns-then-next-wanted-clause-retry : goal.retry_among_tries-returns-then-next-wanted-clause-retry
+retry_among_tries-returns-then-next-wanted-clause-retry g t c =
     let chans = c.args.chans.now in
     let subs = c.args.sel.now.subs in
     let list = c.list-subs.result.now in
@@ -322,16 +322,16 @@ retry_among_tries-returns-then-node-wanted-clause-retry g t c =
     let there = c.requires.there in
     let known : tried < length chans = omega (arith, less, is, there) in
     let here = item-at chans tried c.index-chans-chan.result known c.index-chans-chan.is ∙ ap Some c.in-Leaf.is in
-    let test = c.if-node-wanted.true in
-    let same : (c.loop-at.node == c.args.wanted) ≡ Rattle.std.proofs.Common.true = grind (arith, nat_tests) in
+    let test = c.if-next-wanted.true in
+    let same : (c.loop-at.next == c.args.wanted) ≡ Rattle.std.proofs.Common.true = grind (arith, nat_tests) in
     let found =
-    leaf-retry chans c.args.call c.requires.sound tried known c.in-Leaf.leaf c.loop-at.node c.args.wanted here
+    leaf-retry chans c.args.call c.requires.sound tried known c.in-Leaf.leaf c.loop-at.next c.args.wanted here
     ∙ rw same refl in
-    retry-found chans c.args.call tried rest c.loop-at.node c.args.wanted (Some c.in-Leaf.leaf.retry) (sym found) refl
-    ∙ ap (λ xs. retry_among chans xs c.args.call c.loop-at.node c.args.wanted) (sym split) ∙ c.loop-at.invariant.none
+    retry-found chans c.args.call tried rest c.loop-at.next c.args.wanted (Some c.in-Leaf.leaf.retry) (sym found) refl
+    ∙ ap (λ xs. retry_among chans xs c.args.call c.loop-at.next c.args.wanted) (sym split) ∙ c.loop-at.invariant.none
 
-pub retry_among_tries-overflow_add-node : goal.retry_among_tries-overflow_add-node
-retry_among_tries-overflow_add-node g t c =
+pub retry_among_tries-overflow_add-next : goal.retry_among_tries-overflow_add-next
+retry_among_tries-overflow_add-next g t c =
     let chans = c.args.chans.now in
     let subs = c.args.sel.now.subs in
     let list = c.list-subs.result.now in
@@ -348,8 +348,8 @@ retry_among_tries-overflow_add-node g t c =
     let known : tried < length chans = omega (arith, less, is, there) in
     let here = item-at chans tried c.index-chans-chan.result known c.index-chans-chan.is ∙ ap Some c.in-Leaf.is in
     let one = leaf-nodes chans c.args.call c.requires.sound tried known c.in-Leaf.leaf here in
-    let all = ap (λ xs. node_behind chans xs c.args.call c.loop-at.node) (sym split) ∙ c.loop-at.invariant.place in
-    let more = behind-more chans c.args.call tried rest c.loop-at.node in
+    let all = ap (λ xs. node_behind chans xs c.args.call c.loop-at.next) (sym split) ∙ c.loop-at.invariant.place in
+    let more = behind-more chans c.args.call tried rest c.loop-at.next in
     let few = c.requires.few in
     omega (arith, one, all, more, few)
 
@@ -371,22 +371,22 @@ retry_among_tries-loop-at-preserved-in-Leaf g t c =
     let known : tried < length chans = omega (arith, less, is, there) in
     let here = item-at chans tried c.index-chans-chan.result known c.index-chans-chan.is ∙ ap Some c.in-Leaf.is in
     let one = leaf-nodes chans c.args.call c.requires.sound tried known c.in-Leaf.leaf here in
-    let node : c.loop-at.node + 1 ≡ c.loop-at.node + nodes_at chans c.args.call tried = omega (arith, one) in
-    let passed = c.if-node-wanted.false in
-    let other : (c.loop-at.node == c.args.wanted) ≡ Rattle.std.proofs.Common.false = grind (arith, nat_tests) in
-    let none : retry_in chans tried c.args.call c.loop-at.node c.args.wanted ≡ None =
-    leaf-retry chans c.args.call c.requires.sound tried known c.in-Leaf.leaf c.loop-at.node c.args.wanted here
+    let node : c.loop-at.next + 1 ≡ c.loop-at.next + nodes_at chans c.args.call tried = omega (arith, one) in
+    let passed = c.if-next-wanted.false in
+    let other : (c.loop-at.next == c.args.wanted) ≡ Rattle.std.proofs.Common.false = grind (arith, nat_tests) in
+    let none : retry_in chans tried c.args.call c.loop-at.next c.args.wanted ≡ None =
+    leaf-retry chans c.args.call c.requires.sound tried known c.in-Leaf.leaf c.loop-at.next c.args.wanted here
     ∙ rw other refl in
     let test = c.loop-at-test.true in
     record {
       place =
           ap (node_behind chans rest c.args.call) node
-          ∙ sym (behind-next chans c.args.call tried rest c.loop-at.node)
-          ∙ ap (λ xs. node_behind chans xs c.args.call c.loop-at.node) (sym split) ∙ c.loop-at.invariant.place;
+          ∙ sym (behind-next chans c.args.call tried rest c.loop-at.next)
+          ∙ ap (λ xs. node_behind chans xs c.args.call c.loop-at.next) (sym split) ∙ c.loop-at.invariant.place;
       none =
           ap (λ n. retry_among chans rest c.args.call n c.args.wanted) node
-          ∙ sym (retry-next chans c.args.call tried rest c.loop-at.node c.args.wanted (sym none))
-          ∙ ap (λ xs. retry_among chans xs c.args.call c.loop-at.node c.args.wanted) (sym split)
+          ∙ sym (retry-next chans c.args.call tried rest c.loop-at.next c.args.wanted (sym none))
+          ∙ ap (λ xs. retry_among chans xs c.args.call c.loop-at.next c.args.wanted) (sym split)
           ∙ c.loop-at.invariant.none;
       within = omega (arith, test);
       count = c.loop-at.invariant.count;

@@ -16,14 +16,14 @@ decreases-retry_among_tries g l = 2 * l.number
 
 abbrev pub invariant-retry_among_subs-loop-sub : goal.invariant-retry_among_subs-loop-sub
 invariant-retry_among_subs-loop-sub g l = record {
-  place : node_behind l.chans (numbers_of (drop l.sub-index l.subs)) l.call l.node ≡ node_behind l.chans (numbers_of l.subs) l.call l.fn.node;
-  none : retry_among l.chans (numbers_of (drop l.sub-index l.subs)) l.call l.node l.wanted ≡ retry_among l.chans (numbers_of l.subs) l.call l.fn.node l.wanted;
+  place : node_behind l.chans (numbers_of (drop l.sub-index l.subs)) l.call l.next ≡ node_behind l.chans (numbers_of l.subs) l.call l.fn.node;
+  none : retry_among l.chans (numbers_of (drop l.sub-index l.subs)) l.call l.next l.wanted ≡ retry_among l.chans (numbers_of l.subs) l.call l.fn.node l.wanted;
 }
 
 abbrev pub invariant-retry_among_tries-loop-at : goal.invariant-retry_among_tries-loop-at
 invariant-retry_among_tries-loop-at g l = record {
-  place : node_behind l.chans (tries_from l.sel.subs l.call l.at (l.count - l.at)) l.call l.node ≡ node_behind l.chans (tries l.sel l.call) l.call l.fn.node;
-  none : retry_among l.chans (tries_from l.sel.subs l.call l.at (l.count - l.at)) l.call l.node l.wanted ≡ retry_among l.chans (tries l.sel l.call) l.call l.fn.node l.wanted;
+  place : node_behind l.chans (tries_from l.sel.subs l.call l.at (l.count - l.at)) l.call l.next ≡ node_behind l.chans (tries l.sel l.call) l.call l.fn.node;
+  none : retry_among l.chans (tries_from l.sel.subs l.call l.at (l.count - l.at)) l.call l.next l.wanted ≡ retry_among l.chans (tries l.sel l.call) l.call l.fn.node l.wanted;
   within : l.at ≤ l.count;
   count : l.count ≡ l.sel.retry + 1;
   subs : l.subs ≡ l.sel.subs;
