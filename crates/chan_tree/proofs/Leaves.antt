@@ -38,7 +38,11 @@ module _ {M G : Type 0} where
   -- It is a leaf of the first plan, or of those behind it.
   leaf-joined : (first node : ℕ) (plan : Plan M G) (plans : Plans M G) (k : ℕ)
       → leaf_at node plan (node + k) ≡ chan_in (entry_at (entries first plan) k)
-      → ((j : ℕ) → leaf_at_of (node + nodes plan) plans (node + nodes plan + j) ≡ chan_in (entry_at (entries_below (first + possible_attempts plan) plans) j))
+      → (
+      (j : ℕ)
+      → leaf_at_of (node + nodes plan) plans (node + nodes plan + j)
+      ≡ chan_in (entry_at (entries_below (first + possible_attempts plan) plans) j)
+      )
       → leaf_at_of node (plan_then plan plans) (node + k) ≡ chan_in
       (entry_at (entries_below first (plan_then plan plans)) k)
   leaf-joined first node plan plans k here below = by (before_or_not k (nodes plan))
