@@ -1,4 +1,5 @@
 -- What the entries say of the ids that wait: looking one up, adding one, taking one out, and forgetting those that don't wait.
+use Rattle.std.proofs.Common.{position, IfNone, IfSome}
 use Rattle.std.proofs.Common.{◌≡◌, ℕ, zero, suc, ◌+◌, ◌≤◌, Bool, true, false, cond, nat_eq, List, [], ◌∷◌, ◌++◌, length, filter, slice_get, drop, Option, None, Some, is_some, arith, refl}
 use Rattle.std.proofs.Common.{sym, ap, subst, ◌∙◌}
 use Rattle.std.specs.List.{AllByRecursion, IsDistinct}
@@ -7,7 +8,8 @@ use Rattle.std.specs.Option.{option_map}
 use Rattle.std.specs.Map.{keys_of, lookup}
 use Rattle.std.proofs.lemmas.Bool.{eqb-true, eq-eqb}
 use Rattle.std.proofs.lemmas.Map.{lookup-remove_entry}
-use Rattle.indexmap.specs.IndexMap.{insert_entry}
+use Rattle.indexmap.specs.IndexMap.{insert_entry, set_value_at}
+use Rattle.indexmap.proofs.MapLemmas.{insert_entry-first, Found-position}
 use Rattle.link_core.specs.Kept.{waits, with_entry, waiting, AreGone}
 use Rattle.link_core.specs.Outstanding.{call_of, is_outstanding, without, first, IsEachOnce}
 
@@ -237,3 +239,42 @@ kept_count id (e ∷ es) x h = kept_if (nat_eq id e.0) e.0 e.1 es (insert_entry 
 -- forgetting leaves no more entries
 pub fewer_left : (es : List (ℕ × Option ℕ)) → length (filter waits es) ≤ length es
 fewer_left es = let a = all_wait es in let f = few es in omega (arith, a, f)
+
+-- ---- taking the call of an entry at its place
+
+-- it is as an entry without a call put over it
+put_at : (id i : ℕ) (es : List (ℕ × Option ℕ)) → position (nat_eq id) (keys_of es) ≡ Some i → insert_entry nat_eq es id None ≡ set_value_at es i None
+put_at id i es p = insert_entry-first nat_eq id None es i (Found-position (nat_eq id) es i p).first
+
+put_same_if : (b : Bool) (e : ℕ × Option ℕ) (es put : List (ℕ × Option ℕ)) (r : Option (Option ℕ)) → cond b (Some e.1) r ≡ Some None → (r ≡ Some None → put ≡ es)
+    → cond b ((e.0, None) ∷ es) (e ∷ put) ≡ e ∷ es
+put_same_if true e es put r h i = let none : None ≡ e.1 = cc in ap (λ o. (e.0, o) ∷ es) none
+put_same_if false e es put r h i = ap (λ xs. e ∷ xs) (i h)
+
+put_same : (id : ℕ) (es : List (ℕ × Option ℕ)) → lookup (nat_eq id) es ≡ Some None → insert_entry nat_eq es id None ≡ es
+put_same id [] h = absurd (cc)
+put_same id (e ∷ es) h = put_same_if (nat_eq id e.0) e es (insert_entry nat_eq es id None) (lookup (nat_eq id) es) h (put_same id es)
+
+-- What the entry had is the call of its id.
+pub had : (id : ℕ) (es : List (ℕ × Option ℕ)) (r : Option ℕ) → IsDistinct nat_eq (keys_of es) → lookup (nat_eq id) es ≡ Some r → r ≡ call_of id (waiting es)
+had id es None d h = sym (gone id es d h)
+had id es (Some call) d h = sym (found id call es h)
+
+pub same_at : (id i : ℕ) (es : List (ℕ × Option ℕ)) → position (nat_eq id) (keys_of es) ≡ Some i → lookup (nat_eq id) es ≡ Some None → set_value_at es i None ≡ es
+same_at id i es p h = sym (put_at id i es p) ∙ put_same id es h
+
+pub removed_at : (id i call : ℕ) (es : List (ℕ × Option ℕ)) → position (nat_eq id) (keys_of es) ≡ Some i → lookup (nat_eq id) es ≡ Some (Some call)
+    → waiting (set_value_at es i None) ≡ without id (waiting es)
+removed_at id i call es p h = ap waiting (sym (put_at id i es p)) ∙ removed id call es h
+
+pub gone_at : (id i n : ℕ) (es : List (ℕ × Option ℕ)) → position (nat_eq id) (keys_of es) ≡ Some i → AreGone n es → AreGone n (set_value_at es i None)
+gone_at id i n es p h = subst (AreGone n) (put_at id i es p) (gone_put id n es h)
+
+-- What holds where there is none, and where there is one.
+pub if_none : {A P : Type 0} (r : Option A) → (r ≡ None → P) → IfNone r P
+if_none None h = h refl
+if_none (Some x) h = tt
+
+pub if_some : {A : Type 0} (P : A → Type 0) (r : Option A) → ((x : A) → r ≡ Some x → P x) → IfSome r P
+if_some P None h = tt
+if_some P (Some x) h = h x refl

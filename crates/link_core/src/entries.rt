@@ -35,7 +35,6 @@ pub fn call_at(entries: &Entries, id: u64) -> Option<u32>
 }
 
 /// Takes out the call of an id, where it waits; else nothing changes. It takes no memory.
-#[tactic(auto, using(crate::proofs::Waiting::removed, crate::proofs::Waiting::gone_put, crate::proofs::Waiting::kept_count))]
 pub fn take_call(entries: &mut Entries, id: u64) -> Option<u32>
     requires once { IsUnique nat_eq entries.old }
     ensures answer { result ≡ call_of id (waiting entries.old.entries) }
@@ -45,9 +44,8 @@ pub fn take_call(entries: &mut Entries, id: u64) -> Option<u32>
     ensures once { IsUnique nat_eq entries.new }
     ensures count { length entries.new.entries ≡ length entries.old.entries }
 {
-    let call = call_at(entries, id)?;
-    entries.insert(id, None).unwrap();
-    Some(call)
+    let at = entries.get_index_of(&id)?;
+    entries.get_index_mut(at)?.take()
 }
 
 /// Makes sure that an id that doesn't wait stands nowhere, and answers up to which place no id waits. It takes time in
