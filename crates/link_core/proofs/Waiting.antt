@@ -1,5 +1,5 @@
 -- What the entries say of the ids that wait: looking one up, adding one, taking one out, and forgetting those that don't wait.
-use Rattle.std.proofs.Common.{position, IfNone, IfSome}
+use Rattle.std.proofs.Common.{position, IfNone, IfSome, Result, Ok, Err, OnOk}
 use Rattle.std.proofs.Common.{◌≡◌, ℕ, zero, suc, ◌+◌, ◌≤◌, Bool, true, false, cond, nat_eq, List, [], ◌∷◌, ◌++◌, length, filter, slice_get, drop, Option, None, Some, is_some, arith, refl}
 use Rattle.std.proofs.Common.{sym, ap, subst, ◌∙◌}
 use Rattle.std.specs.List.{AllByRecursion, IsDistinct}
@@ -226,16 +226,6 @@ pub all_wait : (es : List (ℕ × Option ℕ)) → length (filter waits es) ≡ 
 all_wait [] = refl
 all_wait (e ∷ es) = all_wait_if e.0 e.1 (filter waits es) (waiting es) (all_wait es)
 
--- an entry that loses its call stays
-pub kept_count : (id : ℕ) (es : List (ℕ × Option ℕ)) (x : Option ℕ) → lookup (nat_eq id) es ≡ Some x → length (insert_entry nat_eq es id None) ≡ length es
-kept_count id [] x h = absurd (cc)
-kept_count id (e ∷ es) x h = kept_if (nat_eq id e.0) e.0 e.1 es (insert_entry nat_eq es id None) x h (kept_count id es x)
-  where
-    kept_if : (b : Bool) (k : ℕ) (o : Option ℕ) (es put : List (ℕ × Option ℕ)) (x : Option ℕ) → cond b (Some o) (lookup (nat_eq id) es) ≡ Some x
-        → (lookup (nat_eq id) es ≡ Some x → length put ≡ length es) → length (cond b ((k, None) ∷ es) ((k, o) ∷ put)) ≡ suc (length es)
-    kept_if true k o es put x h i = refl
-    kept_if false k o es put x h i = ap suc (i h)
-
 -- forgetting leaves no more entries
 pub fewer_left : (es : List (ℕ × Option ℕ)) → length (filter waits es) ≤ length es
 fewer_left es = let a = all_wait es in let f = few es in omega (arith, a, f)
@@ -278,3 +268,21 @@ if_none (Some x) h = tt
 pub if_some : {A : Type 0} (P : A → Type 0) (r : Option A) → ((x : A) → r ≡ Some x → P x) → IfSome r P
 if_some P None h = tt
 if_some P (Some x) h = h x refl
+
+pub of_ok : {A E P : Type 0} (r : Result A E) (x : A) → r ≡ Ok x → OnOk r P → P
+of_ok (Ok y) x is h = h
+of_ok (Err e) x is h = absurd (cc)
+
+-- ---- an entry that is written over and put back
+
+back_if : (b : Bool) (id : ℕ) (x old : Option ℕ) (e : ℕ × Option ℕ) (es put : List (ℕ × Option ℕ)) → nat_eq id e.0 ≡ b → cond b (Some e.1) (lookup (nat_eq id) es) ≡ Some old
+    → (lookup (nat_eq id) es ≡ Some old → insert_entry nat_eq put id old ≡ es)
+    → insert_entry nat_eq (cond b ((e.0, x) ∷ es) (e ∷ put)) id old ≡ e ∷ es
+back_if true id x old e es put is h i =
+    let same : old ≡ e.1 = cc in
+    ap (λ b. cond b ((e.0, old) ∷ es) ((e.0, x) ∷ insert_entry nat_eq es id old)) is ∙ ap (λ o. (e.0, o) ∷ es) same
+back_if false id x old e es put is h i = ap (λ b. cond b ((e.0, old) ∷ put) (e ∷ insert_entry nat_eq put id old)) is ∙ ap (λ xs. e ∷ xs) (i h)
+
+pub put_back : (id : ℕ) (x old : Option ℕ) (es : List (ℕ × Option ℕ)) → lookup (nat_eq id) es ≡ Some old → insert_entry nat_eq (insert_entry nat_eq es id x) id old ≡ es
+put_back id x old [] h = absurd (cc)
+put_back id x old (e ∷ es) h = back_if (nat_eq id e.0) id x old e es (insert_entry nat_eq es id x) refl h (put_back id x old es)

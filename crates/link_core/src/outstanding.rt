@@ -81,11 +81,12 @@ impl Outstanding {
         ensures gone { OnErr result (self.new ≡ without id self.old) }
         ensures once { IsEachOnce self.new }
     {
-        if self.entries.get_index_of(&id).is_some() {
+        if let Some(stood) = self.entries.insert(id, Some(call))? {
+            // It stood among the entries: it is put back as it was, and then goes behind the others.
+            self.entries.insert(id, stood).unwrap();
             self.remove(id);
             return self.add(id, call);
         }
-        self.entries.insert(id, Some(call))?;
         // The length is what says that the count fits.
         let _length = self.entries.len();
         self.live += 1;

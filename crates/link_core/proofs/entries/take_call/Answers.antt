@@ -1,6 +1,6 @@
 -- The call of an entry is taken at the place that the id finds.
 use Rattle.std.proofs.Common.{◌≡◌, nat_eq, None, Some, sym, ap, subst, ◌∙◌}
-use Rattle.indexmap.specs.IndexMap.{get, set_value_at, with_entries}
+use Rattle.indexmap.specs.IndexMap.{get, with_entries}
 use Rattle.indexmap.proofs.CallerLemmas.{keys-with_value_at, index_map_len-with_value_at}
 use Rattle.std.specs.List.{IsDistinct}
 use Rattle.link_core.proofs.Waiting.{unfound, unknown, had, same_at, removed_at, gone_at, if_none, if_some}
